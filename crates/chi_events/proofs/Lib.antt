@@ -3,7 +3,6 @@ pub mod Splits
 pub mod Later
 pub mod Steps
 pub mod Taken
-pub mod Places
 pub mod ByKind
 pub mod OneMore
 pub mod Opens
@@ -13,3 +12,6 @@ pub mod InTime
 pub mod Parted
 pub mod About
 pub mod Refusals
+pub mod Numbers
+pub mod GranuleStarts
+pub mod Kept

@@ -2,7 +2,7 @@
 use Rattle.std.specs.Prelude.{◌≡◌, ℕ, ◌+◌, ◌-◌, ◌^◌, ◌<◌, ◌≤◌, ◌==◌, ◌⊎◌, nat_lt, Bool, true, false, not, ◌&&◌, ◌||◌, if◌then◌else◌, List, map, filter, filter_map, find, All, AllPairs, Contains, Option, Some, None, IfSome, is_some, is_none, option_map, option_and_then, Result, IsPermutation}
 use Rattle.std.specs.List.Sorted.{IsNonDecreasingBy}
 use Rattle.std.specs.Option.{option_or}
-use Rattle.std.specs.Result.{result_err, result_ok}
+use Rattle.std.specs.Result.{result_err}
 use Rattle.chi_fields.specs.Access.{Access}
 use Rattle.chi_fields.specs.Extent.{Extent}
 use Rattle.chi_fields.specs.declared.refusal.Refusal.{Refusal}

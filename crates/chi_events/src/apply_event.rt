@@ -1,6 +1,9 @@
 //! What an event does to the outstanding requests.
 
-ghost use Rattle.std.specs.Prelude.{◌≡◌, ◌≢◌, ◌+◌, ◌<◌, ◌==◌, ◌++◌, [], ◌∷◌, Some, None, IfErr, IfOk, length, take, drop, position};
+ghost use Rattle.std.specs.Prelude.{◌≡◌, ◌≢◌, Some, None, IfErr, IfOk, IfSome};
+ghost use Rattle.chi_events.specs.Granules.{granule_of_request};
+ghost use Rattle.chi_events.specs.Requests.{Replaces};
+ghost use Rattle.chi_events.specs.declared.outstanding.Open.{Open};
 ghost use Rattle.chi_events.specs.Outstanding.{data_fault, ended_fault, kind_fault, open_with, refusal_by, refused_fault, reply_fault, request_about};
 ghost use Rattle.chi_events.specs.EventEffects.{Takes, ended_by, still_open, with_data, with_reply};
 
@@ -8,38 +11,25 @@ use crate::deciding::{is_reason, opened, with_data};
 use crate::event::{Completion, EventKind, Packet, Requested};
 use crate::fault::EventFault;
 use crate::outstanding::Open;
+use crate::requests::Requests;
 use chi_fields::Refusal;
 use chi_trace::Operation;
 
-/// The place of the outstanding request with a number.
-fn place_of(requests: &[Open], id: u64) -> Option<usize>
-    ensures { result ≡ position (λ o. o.id == id) requests.now }
-{
-    requests.iter().position(|open| open.id == id)
-}
-
-/// The outstanding request with a number.
-fn request_with(requests: &[Open], id: u64) -> Option<Open>
-    ensures { result ≡ open_with id requests.now }
-{
-    requests.iter().copied().find(|open| open.id == id)
-}
-
 /// The outstanding request that an event of this kind is about.
-pub(crate) fn request_about(requests: &[Open], kind: &EventKind) -> Option<Open>
+pub(crate) fn request_about(requests: &Requests, kind: &EventKind) -> Option<Open>
     ensures { result ≡ request_about requests.now kind.now }
 {
     match kind {
-        EventKind::Data(packet) => request_with(requests, packet.id),
-        EventKind::Reply(completion) => request_with(requests, completion.id),
-        EventKind::Dropped { id } => request_with(requests, *id),
-        EventKind::Refused { id, reason: _ } => request_with(requests, *id),
+        EventKind::Data(packet) => requests.with_number(packet.id),
+        EventKind::Reply(completion) => requests.with_number(completion.id),
+        EventKind::Dropped { id } => requests.with_number(*id),
+        EventKind::Refused { id, reason: _ } => requests.with_number(*id),
         _ => None,
     }
 }
 
 /// Why a home refused a request, where the event tells that one did.
-pub(crate) fn refusal_by(requests: &[Open], kind: &EventKind) -> Option<Refusal>
+pub(crate) fn refusal_by(requests: &Requests, kind: &EventKind) -> Option<Refusal>
     ensures { result ≡ refusal_by requests.now kind.now }
 {
     match kind {
@@ -47,18 +37,21 @@ pub(crate) fn refusal_by(requests: &[Open], kind: &EventKind) -> Option<Refusal>
             id: _,
             reason: Some(reason),
         } => Some(*reason),
-        EventKind::Refused { id, reason: None } => request_with(requests, *id)?.refusal,
+        EventKind::Refused { id, reason: None } => match requests.with_number(*id) {
+            Some(request) => request.refusal,
+            None => None,
+        },
         _ => None,
     }
 }
 
 /// Takes a request.
-fn take_request(requests: &mut Vec<Open>, time: u64, request: &Requested) -> Result<(), EventFault>
-    ensures taken { IfOk result (λ u. (kind_fault requests.old.items (EventKind.Request request.now) ≡ None) × Takes (EventKind.Request request.now) time requests.old.items None requests.new.items) }
-    ensures fault { IfErr result (λ fault. fault ≢ EventFault.Memory → kind_fault requests.old.items (EventKind.Request request.now) ≡ Some fault) }
-    ensures failed { IfErr result (λ fault. requests.new.items ≡ requests.old.items) }
+fn take_request(requests: &mut Requests, time: u64, request: &Requested) -> Result<(), EventFault>
+    ensures taken { IfOk result (λ u. (kind_fault requests.old (EventKind.Request request.now) ≡ None) × Takes (EventKind.Request request.now) time requests.old None requests.new) }
+    ensures fault { IfErr result (λ fault. fault ≢ EventFault.Memory → kind_fault requests.old (EventKind.Request request.now) ≡ Some fault) }
+    ensures failed { IfErr result (λ fault. requests.new ≡ requests.old) }
 {
-    if place_of(requests, request.id).is_some() {
+    if requests.with_number(request.id).is_some() {
         return Err(EventFault::NumberTaken);
     }
     match requests.push(opened(request, time)) {
@@ -98,33 +91,28 @@ fn operation_by(request: &Open, time: u64) -> Option<Operation>
     Some(request.fields.operation(access, request.start, time, reply))
 }
 
-/// Keeps the request at a place as it is now, or takes it out and answers its operation, where it has ended.
-fn end_if_complete(
-    requests: &mut Vec<Open>,
-    place: usize,
-    now: Open,
-    time: u64,
-) -> Option<Operation>
-    requires { place < length requests.old.items }
-    ensures left { requests.new.items ≡ take place requests.old.items ++ (still_open now ++ drop (place + 1) requests.old.items) }
+/// Keeps a request as it is now, or takes it out and answers its operation, where it has ended.
+fn end_if_complete(requests: &mut Requests, now: Open, time: u64) -> Option<Operation>
+    requires { IfSome (open_with now.id requests.old) (λ o. (granule_of_request now ≡ granule_of_request o) × (now.start ≡ o.start)) }
+    ensures left { (o : Open) → open_with now.id requests.old ≡ Some o → Replaces o (still_open now) requests.old requests.new }
     ensures ended { result ≡ ended_by time now }
 {
     let ended = operation_by(&now, time);
     if ended.is_some() {
-        requests.remove(place);
+        requests.remove(now.id);
     } else {
-        requests[place] = now;
+        requests.replace(now);
     }
     ended
 }
 
-/// The place of the outstanding request with a number, which has to be there.
-fn outstanding_at(requests: &[Open], id: u64) -> Result<usize, EventFault>
-    ensures found { IfOk result (λ place. position (λ o. o.id == id) requests.now ≡ Some place) }
-    ensures none { IfErr result (λ fault. (fault ≡ EventFault.NotOutstanding) × (position (λ o. o.id == id) requests.now ≡ None)) }
+/// The outstanding request with a number, which has to be there.
+fn outstanding_with(requests: &Requests, id: u64) -> Result<Open, EventFault>
+    ensures found { IfOk result (λ o. open_with id requests.now ≡ Some o) }
+    ensures none { IfErr result (λ fault. (fault ≡ EventFault.NotOutstanding) × (open_with id requests.now ≡ None)) }
 {
-    match place_of(requests, id) {
-        Some(place) => Ok(place),
+    match requests.with_number(id) {
+        Some(request) => Ok(request),
         None => Err(EventFault::NotOutstanding),
     }
 }
@@ -170,13 +158,13 @@ fn refusable(request: &Open, reason: Option<Refusal>) -> Result<(), EventFault>
 
 /// Takes what an event tells, and answers the operation that ended by it, if one did.
 pub(crate) fn apply_event(
-    requests: &mut Vec<Open>,
+    requests: &mut Requests,
     time: u64,
     kind: &EventKind,
 ) -> Result<Option<Operation>, EventFault>
-    ensures taken { IfOk result (λ ended. (kind_fault requests.old.items kind.now ≡ None) × Takes kind.now time requests.old.items ended requests.new.items) }
-    ensures fault { IfErr result (λ fault. fault ≢ EventFault.Memory → kind_fault requests.old.items kind.now ≡ Some fault) }
-    ensures failed { IfErr result (λ fault. requests.new.items ≡ requests.old.items) }
+    ensures taken { IfOk result (λ ended. (kind_fault requests.old kind.now ≡ None) × Takes kind.now time requests.old ended requests.new) }
+    ensures fault { IfErr result (λ fault. fault ≢ EventFault.Memory → kind_fault requests.old kind.now ≡ Some fault) }
+    ensures failed { IfErr result (λ fault. requests.new ≡ requests.old) }
 {
     match kind {
         EventKind::Request(requested) => {
@@ -184,24 +172,24 @@ pub(crate) fn apply_event(
             Ok(None)
         }
         EventKind::Data(packet) => {
-            let place = outstanding_at(requests, packet.id)?;
-            let now = data_taken(&requests[place], packet)?;
-            Ok(end_if_complete(requests, place, now, time))
+            let request = outstanding_with(requests, packet.id)?;
+            let now = data_taken(&request, packet)?;
+            Ok(end_if_complete(requests, now, time))
         }
         EventKind::Reply(sent) => {
-            let place = outstanding_at(requests, sent.id)?;
-            let now = reply_taken(&requests[place], sent)?;
-            Ok(end_if_complete(requests, place, now, time))
+            let request = outstanding_with(requests, sent.id)?;
+            let now = reply_taken(&request, sent)?;
+            Ok(end_if_complete(requests, now, time))
         }
         EventKind::Dropped { id } => {
-            let place = outstanding_at(requests, *id)?;
-            requests.remove(place);
+            outstanding_with(requests, *id)?;
+            requests.remove(*id);
             Ok(None)
         }
         EventKind::Refused { id, reason } => {
-            let place = outstanding_at(requests, *id)?;
-            refusable(&requests[place], *reason)?;
-            requests.remove(place);
+            let request = outstanding_with(requests, *id)?;
+            refusable(&request, *reason)?;
+            requests.remove(*id);
             Ok(None)
         }
         EventKind::Word(_) | EventKind::Final(_) | EventKind::Unknown { .. } | EventKind::End => {

@@ -8,7 +8,13 @@ mod event;
 mod fault;
 pub mod laws;
 mod outstanding;
+mod requests;
+mod starts;
 
 pub use event::{Completion, Event, EventKind, Packet, Requested, WordTold};
 pub use fault::EventFault;
 pub use outstanding::{Open, Outstanding};
+#[doc(hidden)]
+pub use requests::Requests;
+#[doc(hidden)]
+pub use starts::Start;

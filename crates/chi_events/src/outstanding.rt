@@ -1,8 +1,10 @@
 //! The requests that are outstanding, as events come.
 
-ghost use Rattle.std.specs.Prelude.{◌≡◌, ◌≢◌, ℕ, [], ◌∷◌, ◌++◌, List, All, None, Some, IfErr, IfOk, IfSome, option_map, option_to_list, filter_map, IsPermutation};
+ghost use Rattle.std.specs.Prelude.{◌≡◌, ◌≢◌, ◌≤◌, ◌==◌, ℕ, [], ◌∷◌, ◌++◌, List, All, None, Some, IfErr, IfOk, IfSome, option_map, option_to_list, length, IsPermutation};
+ghost use Rattle.std.specs.List.{list_any};
 ghost use Rattle.chi_trace.specs.declared.operation.Operation.{Operation};
 ghost use Rattle.chi_events.specs.declared.event.Event.{Event};
+ghost use Rattle.chi_events.specs.Granules.{StartsBy, granule_of_request};
 ghost use Rattle.chi_events.specs.Operations.{refusals_told};
 ghost use Rattle.chi_events.specs.Outstanding.{IsEndOf, IsEndOfAbout, IsOpen, StaysOrStarts, Tells, fault_of, open_operation, refusal_by, request_about};
 
@@ -10,10 +12,11 @@ use crate::apply_event::{apply_event, refusal_by, request_about};
 use crate::bounds::event_fits;
 use crate::event::Event;
 use crate::fault::EventFault;
+use crate::requests::Requests;
 use chi_fields::{Access, Refusal};
 use chi_lanes::Reply;
 use chi_trace::{Operation, RequestFields};
-use std::alloc::Global;
+use std::alloc::{AllocError, Global};
 use std::marker::Model;
 
 /// An outstanding request. `is_whole` says that its data have come, or that it needs none; `access` is its access from then on.
@@ -47,7 +50,7 @@ impl Open {
 /// The requests that are outstanding, as events come.
 ///
 /// ```
-/// let mut outstanding = Outstanding::new(alloc);
+/// let mut outstanding = Outstanding::new(alloc)?;
 /// for event in &events {
 ///     if let Some(op) = outstanding.take(event)? {
 ///         show(&op);
@@ -56,7 +59,7 @@ impl Open {
 /// ```
 #[derive(Drop)]
 pub struct Outstanding {
-    requests: Vec<Open>,
+    requests: Requests,
     time: u64,
 }
 
@@ -66,25 +69,25 @@ impl Model for Outstanding {
 
     ghost Value = { OutstandingValue };
 
-    ghost view = { λ o. record { requests = o.requests.items; time = o.time } };
+    ghost view = { λ o. record { requests = o.requests; time = o.time } };
 
-    ghost invariant = { λ o. All (IsOpen o.time) o.requests.items };
+    ghost invariant = { λ o. All (IsOpen o.time) o.requests };
 }
 
 impl Outstanding {
     /// No request is outstanding, before any event.
     ///
     /// ```
-    /// let outstanding = Outstanding::new(alloc);
+    /// let outstanding = Outstanding::new(alloc)?;
     /// ```
-    pub fn new(alloc: Global) -> Outstanding
-        ensures tells { Tells [] [] result }
-        ensures none { (result.requests ≡ []) × (result.time ≡ 0) }
+    pub fn new(alloc: Global) -> Result<Outstanding, AllocError>
+        ensures tells { IfOk result (Tells [] []) }
+        ensures none { IfOk result (λ o. (o.requests ≡ []) × (o.time ≡ 0)) }
     {
-        Outstanding {
-            requests: Vec::new(alloc),
+        Ok(Outstanding {
+            requests: Requests::new(alloc)?,
             time: 0,
-        }
+        })
     }
 
     /// Takes an event, where it can come next, and answers the operation that ended by it, if one did.
@@ -122,8 +125,10 @@ impl Outstanding {
     pub fn about(&self, event: &Event) -> Option<RequestFields>
         ensures { result ≡ option_map (λ o. o.fields) (request_about self.now.requests event.now.kind) }
     {
-        let request = request_about(&self.requests, &event.kind)?;
-        Some(request.fields)
+        match request_about(&self.requests, &event.kind) {
+            Some(request) => Some(request.fields),
+            None => None,
+        }
     }
 
     /// Why a home refused a request, where the event tells that one did: the reason that is told, or else the one for which a
@@ -140,15 +145,52 @@ impl Outstanding {
         refusal_by(&self.requests, &event.kind)
     }
 
+    /// How many requests are outstanding.
+    ///
+    /// ```
+    /// let is_quiet = outstanding.count() == 0;
+    /// ```
+    pub fn count(&self) -> usize
+        ensures count { result ≡ length self.now.requests }
+        ensures are_open { All (IsOpen self.now.time) self.now.requests }
+    {
+        self.requests.len()
+    }
+
+    /// Whether a request of the granule with this number is outstanding.
+    ///
+    /// ```
+    /// let may_change = outstanding.is_open(addr / 8);
+    /// ```
+    pub fn is_open(&self, granule: u64) -> bool
+        ensures { result ≡ list_any (λ p. granule_of_request p == granule) self.now.requests }
+    {
+        self.requests.is_open(granule)
+    }
+
+    /// A time at or before which each outstanding request of the granule with this number was taken, and at or before this one.
+    ///
+    /// ```
+    /// let since = outstanding.earliest(addr / 8, now);
+    /// ```
+    pub fn earliest(&self, granule: u64, time: u64) -> u64
+        ensures time { result ≤ time }
+        ensures starts { StartsBy self.now.requests granule result }
+    {
+        self.requests.earliest(granule, time)
+    }
+
     /// The requests that are outstanding, in the order in which they were taken.
     ///
     /// ```
-    /// let count = outstanding.requests().len();
+    /// for request in &outstanding.requests(alloc)? {
+    ///     show(request);
+    /// }
     /// ```
-    pub fn requests(&self) -> &[Open]
-        ensures requests { result.now ≡ self.now.requests }
+    pub fn requests(&self, alloc: Global) -> Result<Vec<Open>, AllocError>
+        ensures requests { IfOk result (λ requests. requests.items ≡ self.now.requests) }
         ensures are_open { All (IsOpen self.now.time) self.now.requests }
     {
-        self.requests.as_slice()
+        self.requests.to_vec(alloc)
     }
 }

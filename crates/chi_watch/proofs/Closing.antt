@@ -18,7 +18,7 @@ use Rattle.chi_watch.specs.Changes.{CanEnd, IsClosed, IsClosedBy, IsTold}
 use Rattle.chi_watch.specs.declared.followed.Gap.{Gap}
 use Rattle.chi_watch.specs.Judged.{judged_part, unknown_at}
 use Rattle.chi_watch.specs.WordsTold.{openings, times_told, writes_told}
-use Rattle.chi_watch.specs.Requests.{StartsBy, granule_of_request}
+use Rattle.chi_events.specs.Granules.{StartsBy, granule_of_request}
 use Rattle.chi_watch.specs.Watches.{IsGranuleOf, IsWatched, latest_of, told_of, unknown_by}
 use Rattle.std.proofs.lemmas.List.{map-append}
 use Rattle.chi_watch.proofs.LastTimes.{latest_first}

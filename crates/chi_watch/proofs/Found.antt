@@ -20,7 +20,7 @@ use Rattle.chi_trace.specs.Words.{word_or_zero}
 use Rattle.chi_watch.specs.Endings.{IsExplainable}
 use Rattle.chi_watch.specs.Judged.{CanBeExplained, final_of, is_known, judged, judged_part, unknown_at, unknown_since}
 use Rattle.chi_watch.specs.WordsTold.{openings, writes_told}
-use Rattle.chi_watch.specs.Requests.{IsQuiet, granule_of_request}
+use Rattle.chi_events.specs.Granules.{IsQuiet, granule_of_request}
 use Rattle.chi_watch.specs.Watches.{CanBeJudged, HasStopped, HasTaken, IsFound, IsGranuleOf, IsUnexplained, IsWatched, WatchValue, Watches, granule, told_of}
 use Rattle.chi_watch.specs.declared.followed.Followed.{Followed}
 use Rattle.chi_watch.proofs.Lists.{All-filter_map}

@@ -18,7 +18,7 @@ use Rattle.chi_watch.specs.declared.followed.Followed.{Followed}
 use Rattle.chi_watch.specs.declared.followed.Gap.{Gap}
 use Rattle.chi_watch.specs.Changes.{IsUntouched}
 use Rattle.chi_watch.specs.Judged.{judged_part, tells_word, unknown_at}
-use Rattle.chi_watch.specs.Requests.{StartsBy, granule_of_request}
+use Rattle.chi_events.specs.Granules.{StartsBy, granule_of_request}
 use Rattle.chi_watch.specs.Watches.{IsGranuleOf, IsUntold, IsWatched, last_time, latest_of, told_of, unknown_by}
 use Rattle.chi_watch.specs.WordsTold.{covers, final_in, final_words, openings, times_told, writes_told}
 use Rattle.chi_watch.proofs.MoreParts.{own_of, parts_same}

@@ -21,7 +21,7 @@ use Rattle.chi_watch.specs.declared.followed.Followed.{Followed}
 use Rattle.chi_watch.specs.declared.followed.Gap.{Gap}
 use Rattle.chi_watch.specs.Changes.{BecomesKnown, BecomesUnknownWhere, BecomesUnknown, GranuleBecomesKnown, IsKnownFrom, IsSameOrUntouched, IsTouched, IsTouchedAndMarked, IsUnknownSince, IsUntouched, IsUpdated}
 use Rattle.chi_watch.specs.Judged.{judged_part, tells_word, unknown_at}
-use Rattle.chi_watch.specs.Requests.{StartsBy}
+use Rattle.chi_events.specs.Granules.{StartsBy}
 use Rattle.chi_watch.specs.Watches.{IsGranuleOf, IsUntold, IsWatched, has_final_word, told_of, unknown_by}
 use Rattle.chi_watch.specs.WordsTold.{covers, final_in, final_words, granule_word, openings, writes_told}
 use Rattle.chi_watch.proofs.FoundWords.{told_other, told_own}

@@ -13,7 +13,7 @@ use Rattle.chi_trace.specs.Granules.{granule_of}
 use Rattle.chi_trace.specs.declared.operation.Operation.{Operation}
 use Rattle.chi_watch.specs.Changes.{CanEnd, HasOneMore, IsClosed}
 use Rattle.chi_watch.specs.Endings.{AreToldTo, CanClose, TakesOpen}
-use Rattle.chi_watch.specs.Requests.{granule_of_request}
+use Rattle.chi_events.specs.Granules.{granule_of_request}
 use Rattle.chi_watch.specs.Watches.{IsGranuleOf, WatchValue, Watches, granule, unknown_by}
 use Rattle.chi_watch.specs.declared.followed.Followed.{Followed}
 use Rattle.chi_watch.proofs.ToldAtTheEnd.{told_none}

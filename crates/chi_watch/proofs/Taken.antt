@@ -23,7 +23,7 @@ use Rattle.chi_watch.specs.declared.fault.WatchFault.TheVariants as fault
 use Rattle.chi_watch.specs.Changes.{BecomesKnown, IsClosed, IsClosedBy, BecomesUnknown, IsUpdated, OthersStay}
 use Rattle.chi_watch.specs.Judged.{unknown_at, unknown_since}
 use Rattle.chi_watch.specs.WordsTold.{covers}
-use Rattle.chi_watch.specs.Requests.{granule_of_request}
+use Rattle.chi_events.specs.Granules.{granule_of_request}
 use Rattle.chi_watch.specs.Watches.{HasTaken, IsGranuleOf, Takes, WatchValue, Watches, granule, fault_of, granule_fault, has_final_word, unknown_by, unknown_in, word_fault}
 use Rattle.chi_watch.proofs.Closing.{closed}
 use Rattle.chi_watch.proofs.NotedKinds.{Fits, TakesWord, noted}

@@ -29,7 +29,7 @@ use Rattle.chi_watch.specs.Watches.{told_of}
 use Rattle.chi_watch.specs.WordsTold.{WordAt, final_words, granule_word, openings, word_after, word_at, words_told, writes_told}
 use Rattle.chi_watch.proofs.Among.{all_traced, judged_moved, writes_are}
 use Rattle.chi_watch.specs.Endings.{judged_word}
-use Rattle.chi_watch.specs.Requests.{IsQuiet, granule_of_request}
+use Rattle.chi_events.specs.Granules.{IsQuiet, granule_of_request}
 use Rattle.chi_watch.specs.declared.followed.Followed.{Followed}
 use Rattle.chi_watch.proofs.JudgedParts.{judged_traced}
 

@@ -22,7 +22,7 @@ use Rattle.chi_watch.specs.declared.followed.Followed.{Followed}
 use Rattle.chi_watch.specs.declared.followed.Gap.{Gap}
 use Rattle.chi_watch.specs.Changes.{IsToldWord}
 use Rattle.chi_watch.specs.Judged.{is_word_by, judged_part, tells_word, unknown_at, unknown_since}
-use Rattle.chi_watch.specs.Requests.{StartsBy}
+use Rattle.chi_events.specs.Granules.{StartsBy}
 use Rattle.chi_watch.specs.Watches.{IsWatched, latest_of, told_of, unknown_by}
 use Rattle.chi_watch.proofs.LastTimes.{latest_second}
 use Rattle.chi_watch.specs.WordsTold.{covers, final_words, openings, times_told, write_at, writes_told}

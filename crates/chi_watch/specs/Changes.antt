@@ -10,7 +10,7 @@ use Rattle.chi_trace.specs.Granules.{granule_of}
 use Rattle.chi_trace.specs.declared.operation.Operation.{Operation}
 use Rattle.chi_watch.specs.declared.followed.Followed.{Followed}
 use Rattle.chi_watch.specs.WordsTold.{covers, write_at}
-use Rattle.chi_watch.specs.Requests.{StartsBy}
+use Rattle.chi_events.specs.Granules.{StartsBy}
 use Rattle.chi_watch.specs.Watches.{unknown_by}
 
 -- the others stay as they were

@@ -6,7 +6,7 @@ use Rattle.chi_judge.specs.Judges.{Keeps}
 use Rattle.chi_judge.specs.Until.{until}
 use Rattle.chi_judge.specs.Standings.{IsExplainable as CanExplain, IsInexplicable as CanNotExplain}
 use Rattle.chi_trace.specs.declared.operation.Operation.{Operation}
-use Rattle.chi_watch.specs.Requests.{granule_of_request}
+use Rattle.chi_events.specs.Granules.{granule_of_request}
 use Rattle.chi_watch.specs.Watches.{unknown_by}
 use Rattle.chi_watch.specs.declared.followed.Followed.{Followed}
 

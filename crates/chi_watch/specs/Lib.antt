@@ -7,6 +7,5 @@ pub mod Faults
 pub mod ListedAs
 pub mod Quiet
 pub mod Reaching
-pub mod Requests
 pub mod Undecided
 pub mod Watches

@@ -5,7 +5,7 @@ use Rattle.chi_events.specs.declared.event.Event.{Event}
 use Rattle.chi_events.specs.declared.event.EventKind.{EventKind}
 use Rattle.chi_events.specs.declared.event.EventKind.TheVariants.{Word}
 use Rattle.chi_events.specs.Outstanding.{request_about}
-use Rattle.chi_watch.specs.Requests.{granule_of_request}
+use Rattle.chi_events.specs.Granules.{granule_of_request}
 use Rattle.chi_watch.specs.Watches.{WatchValue, unknown_in}
 
 -- the granule of the outstanding request that an event is about, or of the word that it tells, where something that is not told may

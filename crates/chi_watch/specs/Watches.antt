@@ -18,7 +18,7 @@ use Rattle.chi_watch.specs.declared.followed.Followed.{Followed}
 use Rattle.chi_watch.specs.declared.fault.WatchFault.{WatchFault}
 use Rattle.chi_watch.specs.declared.fault.WatchFault.TheVariants as fault
 use Rattle.chi_watch.specs.Faults.{as_watch_fault}
-use Rattle.chi_watch.specs.Requests.{StartsBy, granule_of_request}
+use Rattle.chi_events.specs.Granules.{StartsBy, granule_of_request}
 use Rattle.chi_watch.specs.Judged.{CanBeExplained, IsExplainedBy, is_known, judged_part, unknown_at, unknown_since}
 use Rattle.chi_watch.specs.WordsTold.{covers, final_words, openings, times_told, writes_told}
 use Rattle.chi_watch.specs.declared.followed.Gap.{Gap}

@@ -1,15 +1,22 @@
 //! Whether the granules that are watched take an event.
 
-ghost use Rattle.std.specs.Prelude.{◌≡◌, ◌==◌, None, Some, IfErr, IfOk};
+ghost use Rattle.std.specs.Prelude.{◌≡◌, ◌+◌, ◌^◌, ◌==◌, ◌&&◌, nat_le, nat_lt, None, Some, IfErr, IfOk};
 ghost use Rattle.std.specs.List.{list_any};
 ghost use Rattle.chi_watch.specs.Changes.{HasLength};
-ghost use Rattle.chi_watch.specs.Requests.{granule_of_request};
+ghost use Rattle.chi_events.specs.Granules.{granule_of_request};
 ghost use Rattle.chi_watch.specs.Watches.{granule as granule_of, granule_fault, has_final_word, word_fault};
 
 use crate::fault::WatchFault;
-use crate::quiet::has_length;
 use crate::watch::Watch;
 use chi_events::{Event, EventKind};
+use chi_fields::ADDRESSES;
+
+/// Whether this is a length from 1 to 4,096 of bytes below 2^52.
+fn has_length(addr: u64, length: u64) -> bool
+    ensures { result ≡ (nat_lt 0 length && nat_le length 4096 && nat_le (addr + length) (2 ^ 52)) }
+{
+    0 < length && length <= 4096 && addr <= ADDRESSES - length
+}
 
 impl Watch {
     /// Whether the granule's word at the end was told.

@@ -52,7 +52,7 @@ impl Watch {
     {
         Counts {
             ended: self.ended,
-            outstanding: self.outstanding.requests().len(),
+            outstanding: self.outstanding.count(),
             granules: self.granules.len(),
         }
     }

@@ -164,8 +164,8 @@ impl Watch {
         parts_explain();
         granules_explain();
         let mut granules = self.granules;
-        let requests = self.outstanding.requests();
-        close_open(alloc, &mut granules, requests, progress)?;
+        let requests = self.outstanding.requests(alloc)?;
+        close_open(alloc, &mut granules, &requests, progress)?;
         let listed = judge_all(alloc, &granules, budget, progress)?;
         let found = each_found_at_end(alloc, &granules, &listed.unexplained, budget, progress)?;
         let unexplained = by_time(found)?;

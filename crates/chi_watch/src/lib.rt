@@ -9,7 +9,6 @@ mod fault;
 mod followed;
 mod granules;
 mod judge_all;
-mod quiet;
 mod reaching;
 mod recording;
 mod undecided;

@@ -77,7 +77,7 @@ impl Watch {
     {
         operations_are_told();
         granules_stand_alone();
-        let _requests = self.outstanding.requests();
+        let _count = self.outstanding.count();
         let Some(followed) = self.granules.get(&granule) else {
             return Ok(FoundReach {
                 reach: Reach::Undecided,

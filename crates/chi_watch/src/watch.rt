@@ -7,13 +7,12 @@ ghost use Rattle.chi_watch.specs.Endings.{IsExplainable};
 ghost use Rattle.chi_watch.specs.Judged.{CanBeExplained, is_known};
 ghost use Rattle.chi_search.specs.Looks.{Grew, GrewBy, for_verdict};
 ghost use Rattle.chi_watch.specs.Quiet.{BecomesQuiet, granule_about};
-ghost use Rattle.chi_watch.specs.Requests.{granule_of_request};
+ghost use Rattle.chi_events.specs.Granules.{granule_of_request};
 ghost use Rattle.chi_watch.specs.Watches.{CanBeJudged, HasTaken, IsFound, IsUnexplained, Takes, Watches, fault_of, granule as granule_of};
 
 use crate::ended::close_ended;
 use crate::fault::WatchFault;
 use crate::followed::Followed;
-use crate::quiet::is_open;
 use crate::update_granules::update_granules;
 use chi_events::laws::operations_are_told;
 use chi_events::{Event, EventKind, Outstanding};
@@ -28,7 +27,7 @@ use std::marker::Model;
 /// The granules that events tell of, each followed as far as what is told of it allows.
 ///
 /// ```
-/// let mut watch = Watch::new(alloc);
+/// let mut watch = Watch::new(alloc)?;
 /// for event in &events {
 ///     if let Some(granule) = watch.take(alloc, event, 1_000_000, &mut NoProgress)? {
 ///         show(granule);
@@ -64,23 +63,23 @@ impl Watch {
     /// Nothing is watched, before any event.
     ///
     /// ```
-    /// let watch = Watch::new(alloc);
+    /// let watch = Watch::new(alloc)?;
     /// ```
-    pub fn new(alloc: Global) -> Watch
-        ensures { Watches [] [] result }
+    pub fn new(alloc: Global) -> Result<Watch, AllocError>
+        ensures { IfOk result (Watches [] []) }
     {
-        Watch {
-            outstanding: Outstanding::new(alloc),
+        Ok(Watch {
+            outstanding: Outstanding::new(alloc)?,
             granules: BTreeMap::new(alloc),
             ended: 0,
-        }
+        })
     }
 
     /// Whether a request of the granule is outstanding.
     pub(crate) fn is_open(&self, granule: u64) -> bool
         ensures { result ≡ list_any (λ p. granule_of_request p == granule) self.now.outstanding.requests }
     {
-        is_open(self.outstanding.requests(), granule)
+        self.outstanding.is_open(granule)
     }
 
     /// Whether no request of the granule is outstanding, or what was told of it is known not to be explained.
@@ -151,7 +150,7 @@ impl Watch {
         operations_are_told();
         granules_stand_alone();
         parts_explain();
-        let _requests = self.outstanding.requests();
+        let _count = self.outstanding.count();
         self.is_found(alloc, granule, budget, progress)
     }
 
@@ -174,7 +173,7 @@ impl Watch {
         close_ended(
             alloc,
             &mut self.granules,
-            self.outstanding.requests(),
+            &self.outstanding,
             &ended,
             looks,
             progress,

@@ -1,5 +1,6 @@
 -- one line more
-use Rattle.std.proofs.Common.{◌≡◌, ◌≢◌, ℕ, ◌≤◌, filter, get_or, not, ◌==◌, ◌||◌, ◌⊎◌, ◌<◌, List, [], ◌∷◌, ◌++◌, All, Option, None, Some, IfErr, IfSome, inl, inr, Ok, Err, Result, IsErrAnd, Bool, Vec, true, false, true≢false, eq-eqb, length, length-append, refl, sym, ap, subst, ◌∙◌, arith}
+use Rattle.std.proofs.Common.{◌≡◌, ◌≢◌, ℕ, ◌≤◌, filter, get_or, not, ◌==◌, ◌||◌, ◌⊎◌, ◌<◌, List, [], ◌∷◌, ◌++◌, All, Option, None, Some, IfErr, IfOk, IfSome, inl, inr, Ok, Err, Result, IsErrAnd, Bool, Vec, true, false, true≢false, eq-eqb, length, length-append, refl, sym, ap, subst, ◌∙◌, arith}
+use Rattle.std.specs.Prelude.{⊤}
 use Rattle.std.specs.List.{AllPairs, Contains, last_or}
 use Rattle.std.specs.Option.{option_map_or}
 use Rattle.std.specs.declared.alloc.Global.{Global}
@@ -310,6 +311,17 @@ pub kept_at_fault : {A E : Type 0} (start : Option (List ℕ)) (P : List ℕ →
 kept_at_fault None P r is = tt
 kept_at_fault (Some text) P (Ok a) is = tt
 kept_at_fault (Some text) P (Err f) is = is
+
+-- what ends with a fault answers nothing
+pub not_ok : {A E : Type 0} (r : Result A E) (f : E) (start : Option (List ℕ)) (P : List ℕ → A → Type 0) → IsErrAnd r (λ y. y ≡ f) → IfSome start (λ text. IfOk r (P text))
+not_ok (Ok a) f start P is = absurd is
+not_ok (Err y) f None P is = tt
+not_ok (Err y) f (Some text) P is = tt
+
+-- and what ends with an answer has no fault
+pub no_fault : (start : Option (List ℕ)) → IfSome start (λ text. ⊤)
+no_fault None = tt
+no_fault (Some text) = tt
 
 -- a fault that is passed on
 pub passed_on : {A E : Type 0} (r : Result A E) (f : E) (P : Result A E → Type 0) → IsErrAnd r (λ y. y ≡ f) → P (Err f) → P r

@@ -1,5 +1,5 @@
 -- what a line states that is an object in which there is no fault
-use Rattle.std.proofs.Common.{◌≡◌, ℕ, List, Some, None, Ok, true, false, option_map, refl}
+use Rattle.std.proofs.Common.{◌≡◌, ℕ, List, Some, None, Ok, true, false, refl}
 use Rattle.serde_json.specs.Data.{Members, object}
 use Rattle.chi_json.specs.Values.{json_value}
 use Rattle.chi_reading.proofs.LineValues.{line_value-json_value}

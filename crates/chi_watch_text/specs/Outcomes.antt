@@ -5,8 +5,6 @@ use Rattle.std.specs.declared.alloc.Global.{Global}
 use Rattle.chi_events.specs.Ended.{are_ended}
 use Rattle.chi_events.specs.declared.event.Event.{Event}
 use Rattle.chi_search.specs.Looks.{GrewBy}
-use Rattle.chi_judge.specs.Reaches.{IfUndecided}
-use Rattle.chi_judge.specs.declared.reach.Reach.{Reach}
 use Rattle.chi_watch.specs.Counts.{AreCounted, unjudged}
 use Rattle.chi_watch.specs.Endings.{IsListed}
 use Rattle.chi_watch.specs.Judged.{CanBeExplained, IsExplained}

@@ -67,15 +67,48 @@ fn add_open(ops: &mut Vec<Operation>, requests: &[Open]) -> Result<(), AllocErro
 
 /// The operations that had ended and those that are still open, in the order of their starts.
 pub(crate) fn in_order(
+    alloc: Global,
     mut ops: Vec<Operation>,
     outstanding: &Outstanding,
 ) -> Result<Vec<Operation>, AllocError>
     ensures { IfOk result (λ all. (events : List Event) → Tells events ops.items outstanding.now → AreInOrder events all.items) }
 {
     operations_are_told();
-    add_open(&mut ops, outstanding.requests())?;
+    let requests = outstanding.requests(alloc)?;
+    add_open(&mut ops, &requests)?;
     ops.sort_by_key(|op| op.start)?;
     Ok(ops)
+}
+
+/// Reads lines of a format, one by one, before which nothing is outstanding: the operations that they tell, and why requests were
+/// refused.
+fn read_each<R: BufRead>(
+    alloc: Global,
+    from: &mut R,
+    format: LineFormat,
+    mut outstanding: Outstanding,
+) -> Result<OperationsTold, LinesFault>
+    requires { Tells [] [] outstanding }
+    ensures told { IfSome (R.remaining from.old) (λ text. IfOk result (λ told. AreOperations format text told.operations.items)) }
+    ensures refusals { IfSome (R.remaining from.old) (λ text. IfOk result (λ told. AreRefusals format text told.refusals.items)) }
+    ensures fault { IfSome (R.remaining from.old) (λ text. IfErr result (IsOperationsFault format text)) }
+{
+    let mut ops = Vec::new(alloc);
+    let mut refusals = Vec::new(alloc);
+    let mut reading = Reading::new(alloc, format);
+    for _ in 0..u64::MAX {
+        let Some(event) = reading.next_event(alloc, from)? else {
+            return Ok(OperationsTold {
+                operations: in_order(alloc, ops, &outstanding)?,
+                refusals,
+            });
+        };
+        let refusal = outstanding.refusal(&event);
+        let ended = take_event(&mut outstanding, &event, reading.number)?;
+        add_some(&mut ops, ended)?;
+        add_some(&mut refusals, refusal)?;
+    }
+    Err(LinesFault::TooManyLines)
 }
 
 /// Reads lines of a format, one by one: the operations that they tell, in the order of their starts, and why requests were refused:
@@ -99,21 +132,6 @@ pub fn read_operations<R: BufRead>(
     ensures refusals { IfSome (R.remaining from.old) (λ text. IfOk result (λ told. AreRefusals format text told.refusals.items)) }
     ensures fault { IfSome (R.remaining from.old) (λ text. IfErr result (IsOperationsFault format text)) }
 {
-    let mut outstanding = Outstanding::new(alloc);
-    let mut ops = Vec::new(alloc);
-    let mut refusals = Vec::new(alloc);
-    let mut reading = Reading::new(alloc, format);
-    for _ in 0..u64::MAX {
-        let Some(event) = reading.next_event(alloc, from)? else {
-            return Ok(OperationsTold {
-                operations: in_order(ops, &outstanding)?,
-                refusals,
-            });
-        };
-        let refusal = outstanding.refusal(&event);
-        let ended = take_event(&mut outstanding, &event, reading.number)?;
-        add_some(&mut ops, ended)?;
-        add_some(&mut refusals, refusal)?;
-    }
-    Err(LinesFault::TooManyLines)
+    let outstanding = Outstanding::new(alloc)?;
+    read_each(alloc, from, format, outstanding)
 }

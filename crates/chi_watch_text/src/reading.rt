@@ -21,7 +21,6 @@ use std::io::BufRead;
 /// A reading of lines: what it follows of the flits that they state, and of the requests that errors may drop; the last line, and how
 /// many lines were read; the events of the last line that are not given yet; the lines that were read for the event that was
 /// given last, one after the other; and the memory by which usual lines are read.
-#[derive(Drop)]
 pub(crate) struct Reading {
     pub format: LineFormat,
     pub port: PointedPort,
@@ -31,6 +30,22 @@ pub(crate) struct Reading {
     pub pending: Vec<Event>,
     pub lines: Vec<u8>,
     pub scratch: Scratch,
+}
+
+// By one call, so that the proof of what reads has one step for it where it ends.
+impl Drop for Reading {
+    fn drop(self) {
+        let Reading {
+            format: _,
+            port: _port,
+            awaited: _awaited,
+            line: _line,
+            number: _,
+            pending: _pending,
+            lines: _lines,
+            scratch: _scratch,
+        } = self;
+    }
 }
 
 impl Reading {

@@ -161,16 +161,16 @@ fn known_words(
 
 impl Recording {
     // Nothing was told.
-    fn new(alloc: Global) -> Recording
-        ensures { HasRecorded [] result }
+    fn new(alloc: Global) -> Result<Recording, AllocError>
+        ensures { IfOk result (HasRecorded []) }
     {
-        Recording {
-            watch: Watch::new(alloc),
+        Ok(Recording {
+            watch: Watch::new(alloc)?,
             ended: Vec::new(alloc),
             writes: Vec::new(alloc),
             opening: BTreeMap::new(alloc),
             final_words: BTreeMap::new(alloc),
-        }
+        })
     }
 
     // Records the event of the line with this number.
@@ -196,7 +196,7 @@ impl Recording {
         requires told { (events : List Event) × HasRecorded events self }
         ensures { IfOk result (λ recorded. (events : List Event) → HasRecorded events self → IsToldTrace events recorded) }
     {
-        let ops = in_order(self.ended, self.watch.outstanding())?;
+        let ops = in_order(alloc, self.ended, self.watch.outstanding())?;
         let ops = with_writes(ops, &self.writes)?;
         let judged = judged_operations(alloc, &self.watch, &ops)?;
         let opening = GranuleWords::of_map(alloc, &self.opening)?;
@@ -207,6 +207,27 @@ impl Recording {
             None => unreachable!(),
         }
     }
+}
+
+// Reads lines of a format, one by one, into a recording of nothing: the trace that they tell.
+fn record_each<R: BufRead>(
+    alloc: Global,
+    from: &mut R,
+    format: LineFormat,
+    mut recording: Recording,
+) -> Result<Recorded, LinesFault>
+    requires { HasRecorded [] recording }
+    ensures recorded { IfSome (R.remaining from.old) (λ text. IfOk result (IsRecorded format text)) }
+    ensures fault { IfSome (R.remaining from.old) (λ text. IfErr result (IsLinesFault format text)) }
+{
+    let mut reading = Reading::new(alloc, format);
+    for _ in 0..u64::MAX {
+        let Some(event) = reading.next_event(alloc, from)? else {
+            return Ok(recording.trace(alloc)?);
+        };
+        recording.record(alloc, &event, reading.number)?;
+    }
+    Err(LinesFault::TooManyLines)
 }
 
 /// Reads lines of a format, one by one, as a trace: of all addresses, with the operations that they tell, each with the number of
@@ -228,13 +249,6 @@ pub fn read_events<R: BufRead>(
     ensures recorded { IfSome (R.remaining from.old) (λ text. IfOk result (IsRecorded format text)) }
     ensures fault { IfSome (R.remaining from.old) (λ text. IfErr result (IsLinesFault format text)) }
 {
-    let mut recording = Recording::new(alloc);
-    let mut reading = Reading::new(alloc, format);
-    for _ in 0..u64::MAX {
-        let Some(event) = reading.next_event(alloc, from)? else {
-            return Ok(recording.trace(alloc)?);
-        };
-        recording.record(alloc, &event, reading.number)?;
-    }
-    Err(LinesFault::TooManyLines)
+    let recording = Recording::new(alloc)?;
+    record_each(alloc, from, format, recording)
 }

@@ -9,7 +9,7 @@ ghost use Rattle.chi_flits.specs.Effects.{HasSeen};
 ghost use Rattle.chi_flits.specs.declared.flit.Flit.{Flit};
 ghost use Rattle.chi_search.specs.Looks.{Grew, for_verdict};
 ghost use Rattle.chi_watch.specs.Undecided.{IsExplainedAsFar, states_for};
-ghost use Rattle.chi_watch.specs.Watches.{HasTaken};
+ghost use Rattle.chi_watch.specs.Watches.{HasTaken, Watches};
 ghost use Rattle.chi_watch.specs.Reaching.{IsReachedBy};
 ghost use Rattle.chi_watch_text.specs.Outcomes.{IsFoundBy, IsOutcome, IsStillFound, IsTold, IsWatched, IsWatchingFault, ReachedBy, SaysAtEnd, WentAsFar, WentBy};
 ghost use Rattle.chi_watch_text.specs.Reading.{IsRefusedLater};
@@ -158,7 +158,8 @@ fn ended<P: WatchProgress>(
 {
     let counts = watch.counts();
     let unjudged = watch.unjudged();
-    let waiting = first_waiting(alloc, port, watch.outstanding().requests())?;
+    let requests = watch.outstanding().requests(alloc)?;
+    let waiting = first_waiting(alloc, port, &requests)?;
     let ending = watch.ending(alloc, budget, progress)?;
     Ok(Watched {
         found: mem::replace(found, Vec::new(alloc)),
@@ -171,17 +172,19 @@ fn ended<P: WatchProgress>(
     })
 }
 
-/// Reads lines of a format, one by one, and watches the granules that they tell of. Those that no order explains are told, and are
-/// in `found` until it ends.
+/// Reads lines of a format, one by one, and watches the granules that they tell of, of which nothing was told before. Those that no
+/// order explains are told, and are in `found` until it ends.
 fn watch_each<R: BufRead, W: Write, P: WatchProgress>(
     alloc: Global,
     from: &mut R,
     to: &mut W,
     options: &WatchOptions,
+    mut watch: Watch,
     found: &mut Vec<FoundGranule>,
     progress: &mut P,
 ) -> Result<Watched, LinesFault>
-    requires { found.old.items ≡ [] }
+    requires untold { Watches [] [] watch }
+    requires none { found.old.items ≡ [] }
     ensures watched { IfSome (R.remaining from.old) (λ text. IfOk result (IsWatched options.now.format text options.now.keep_going)) }
     ensures fault { IfSome (R.remaining from.old) (λ text. IfErr result (IsWatchingFault options.now.format text)) }
     ensures told { IfOk result (λ watched. Appends (W.contents to.old) (W.contents to.new) (flat_map found_text watched.found.items)) }
@@ -193,7 +196,6 @@ fn watch_each<R: BufRead, W: Write, P: WatchProgress>(
     ensures far { IfSome (R.remaining from.old) (λ text. IfOk result (WentAsFar (P.looked for_verdict) progress.old progress.new options.now.budget options.now.format text)) }
     ensures reached { IfOk result (ReachedBy (P.looked for_verdict) progress.old progress.new options.now.budget) }
 {
-    let mut watch = Watch::new(alloc);
     let mut quiet = Vec::new(alloc);
     let mut kept = nothing_kept(alloc, options.keep_lines);
     let mut reading = Reading::new(alloc, options.format);
@@ -293,7 +295,11 @@ pub fn watch_lines<R: BufRead, W: Write, P: WatchProgress>(
     ensures reached { IfOk result (ReachedBy (P.looked for_verdict) progress.old progress.new options.now.budget) }
 {
     let mut found = Vec::new(alloc);
-    match watch_each(alloc, from, to, options, &mut found, progress) {
+    let Ok(watch) = Watch::new(alloc) else {
+        let fault = LinesFault::Memory;
+        return Err(Unfinished { found, fault });
+    };
+    match watch_each(alloc, from, to, options, watch, &mut found, progress) {
         Ok(watched) => Ok(watched),
         Err(fault) => Err(Unfinished { found, fault }),
     }

@@ -179,7 +179,7 @@ pub(crate) fn assert_found<R: AllocGlobal + Abort>(
     events: &[Told],
     wanted: Option<u64>,
 ) -> Result<(), Fail> {
-    let mut watch = Watch::new(rt.alloc());
+    let mut watch = Watch::new(rt.alloc())?;
     let found = take_all(rt.alloc(), &mut watch, events)?;
     assert_same(rt, (case, found), (case, wanted));
     Ok(())
@@ -210,7 +210,7 @@ pub(crate) fn ending_of(
     budget: u64,
     may_find: bool,
 ) -> Result<Ending, Fail> {
-    let mut watch = Watch::new(alloc);
+    let mut watch = Watch::new(alloc)?;
     let found = take_all(alloc, &mut watch, events)?;
     if found.is_some() && !may_find {
         return Err(Fail::new("a granule was found by an event"));

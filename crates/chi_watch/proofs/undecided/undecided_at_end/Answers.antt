@@ -1,5 +1,5 @@
 -- it is explained as far as was found, by the states that were counted
-use Rattle.std.proofs.Common.{ℕ, List, Option, IfSome, subst}
+use Rattle.std.proofs.Common.{Option, IfSome, subst}
 use Rattle.chi_search.specs.Looks.{GrewBy, LookedAtLeast, for_verdict}
 use Rattle.chi_search.proofs.Growing.{grew_at_least, grew_some}
 use Rattle.chi_judge.proofs.AsFar.{as_far_by}

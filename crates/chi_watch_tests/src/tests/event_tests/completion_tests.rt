@@ -23,7 +23,8 @@ fn assert_refused<R: AllocGlobal + Abort>(
         (text, Some(EventFault::Refused(refusal))),
     );
     assert_text(rt, EventFault::Refused(refusal), text)?;
-    let [open] = outstanding.requests() else {
+    let requests = outstanding.requests(rt.alloc())?;
+    let [open] = requests.as_slice() else {
         return Err(Fail::new("there is not one request"));
     };
     assert_same(

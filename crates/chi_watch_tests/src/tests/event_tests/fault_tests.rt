@@ -23,7 +23,8 @@ pub(crate) fn assert_text<R: AllocGlobal + Abort>(
 
 // All that is known of the requests.
 fn shown(alloc: Global, outstanding: &Outstanding) -> Result<String, Fail> {
-    Ok(format!(in alloc; "{:?}", outstanding.requests())?)
+    let requests = outstanding.requests(alloc)?;
+    Ok(format!(in alloc; "{:?}", requests.as_slice())?)
 }
 
 // An event at a time, its fault, and the text of that.

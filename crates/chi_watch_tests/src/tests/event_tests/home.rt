@@ -167,7 +167,7 @@ pub(crate) fn fault(outstanding: &mut Outstanding, time: u64, told: Told) -> Opt
 
 /// What is outstanding after these events, by none of which an operation ends.
 pub(crate) fn after(alloc: Global, events: &[(u64, Told)]) -> Result<Outstanding, Fail> {
-    let mut outstanding = Outstanding::new(alloc);
+    let mut outstanding = Outstanding::new(alloc)?;
     for (time, told) in events {
         if take(&mut outstanding, *time, *told)?.is_some() {
             return Err(Fail::new("an operation ended"));

@@ -8,9 +8,10 @@ use std::test::Fail;
 
 // Before any event.
 #[test]
-fn none_is_outstanding(rt: HostRuntime) {
-    let outstanding = Outstanding::new(rt.alloc());
-    assert_same(&rt, outstanding.requests().len(), 0);
+fn none_is_outstanding(rt: HostRuntime) -> Result<(), Fail> {
+    let outstanding = Outstanding::new(rt.alloc())?;
+    assert_same(&rt, outstanding.count(), 0);
+    Ok(())
 }
 
 // With its data a request may have taken effect, at any time from its start on.
@@ -22,7 +23,8 @@ fn open_with_data(rt: HostRuntime) -> Result<(), Fail> {
         (12, Told::Data(4, ENABLES)),
     ];
     let outstanding = after(rt.alloc(), &events)?;
-    let [first, second] = outstanding.requests() else {
+    let requests = outstanding.requests(rt.alloc())?;
+    let [first, second] = requests.as_slice() else {
         return Err(Fail::new("there are not two requests"));
     };
     assert_load(&rt, "first", first.operation(), (10, u64::MAX), None);
@@ -37,7 +39,8 @@ fn open_without_data(rt: HostRuntime) -> Result<(), Fail> {
     let events = [(10, Told::LoadAlone(3)), (11, Told::Answer(3))];
     for (count, completion) in [(1, None), (2, Some(Some(Reply::CompData(OLD))))] {
         let outstanding = after(rt.alloc(), &events[..count])?;
-        let [request] = outstanding.requests() else {
+        let requests = outstanding.requests(rt.alloc())?;
+        let [request] = requests.as_slice() else {
             return Err(Fail::new("there is not one request"));
         };
         assert_same(
@@ -54,7 +57,8 @@ fn open_without_data(rt: HostRuntime) -> Result<(), Fail> {
 fn request_as_it_was_asked(rt: HostRuntime) -> Result<(), Fail> {
     let events = [(10, Told::Load(3)), (10, Told::Read(7, 4100))];
     let outstanding = after(rt.alloc(), &events)?;
-    let [load, read] = outstanding.requests() else {
+    let requests = outstanding.requests(rt.alloc())?;
+    let [load, read] = requests.as_slice() else {
         return Err(Fail::new("there are not two requests"));
     };
     let fields = load.fields;

@@ -28,7 +28,7 @@ fn assert_reason<R: AllocGlobal + Abort>(
 ) -> Result<(), Fail> {
     let mut outstanding = after(rt.alloc(), events)?;
     let found = fault(&mut outstanding, 20, Told::Refused(id, Some(reason)));
-    let left = outstanding.requests().len();
+    let left = outstanding.count();
     if has_gone {
         assert_same(rt, (case, reason, found, left), (case, reason, None, 0));
     } else {

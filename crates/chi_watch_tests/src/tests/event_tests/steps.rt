@@ -38,7 +38,7 @@ fn reply_of(ended: Option<Operation>) -> Option<Reply> {
 // The numbers and the starts of the requests.
 fn numbers_and_starts(alloc: Global, outstanding: &Outstanding) -> Result<Vec<(u64, u64)>, Fail> {
     let mut list = Vec::new(alloc);
-    for request in outstanding.requests() {
+    for request in &outstanding.requests(alloc)? {
         list.push((request.id, request.start))?;
     }
     Ok(list)
@@ -83,7 +83,7 @@ fn assert_step<R: AllocGlobal + Abort>(
         }
         Step::Left(count) => assert_same(
             rt,
-            (case, place, outstanding.requests().len()),
+            (case, place, outstanding.count()),
             (case, place, count),
         ),
         Step::Requests(wanted) => {
@@ -99,7 +99,7 @@ fn assert_steps<R: AllocGlobal + Abort>(
     case: &str,
     steps: &[Step<'_>],
 ) -> Result<(), Fail> {
-    let mut outstanding = Outstanding::new(rt.alloc());
+    let mut outstanding = Outstanding::new(rt.alloc())?;
     for (place, step) in steps.iter().enumerate() {
         assert_step(rt, (case, place), &mut outstanding, step)?;
     }

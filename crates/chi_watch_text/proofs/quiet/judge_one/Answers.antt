@@ -1,5 +1,5 @@
 -- it is noted where no order explains it, with how far it can be explained
-use Rattle.std.proofs.Common.{◌⊎◌, ℕ, ◌+◌, arith, All, List, inl, inr, refl, sym, subst, ◌∙◌}
+use Rattle.std.proofs.Common.{◌⊎◌, ℕ, arith, All, List, inl, inr, refl, sym, subst, ◌∙◌}
 use Rattle.std.specs.List.{Contains}
 use Rattle.std.proofs.lemmas.List.Elements.{All-contains_itself, All-push, All-weaker}
 use Rattle.chi_search.proofs.Growing.{at_least_after, at_least_before, some_after}

@@ -1,5 +1,5 @@
 -- line after line is taken
-use Rattle.std.proofs.Common.{◌≡◌, ℕ, Bool, ◌++◌, ◌∷◌, [], All, IfErr, IfSome, ◌∙◌, flat_map, List, Option, Err, Result, length, ap, subst, sym, arith}
+use Rattle.std.proofs.Common.{◌≡◌, ℕ, Bool, ◌++◌, ◌∷◌, [], All, IfErr, IfSome, ◌∙◌, flat_map, List, Option, Err, Result, inl, length, ap, refl, subst, sym, arith}
 use Rattle.std.specs.Io.KnownBytes.{Appends}
 use Rattle.std.proofs.lemmas.List.Elements.{All-nil}
 use Rattle.chi_script.specs.WriterBytes.{AppendsFront}
@@ -22,21 +22,21 @@ use Rattle.chi_watch_text.proofs.KeptLines.{keeps_still, lines_kept_more, none_k
 use Rattle.chi_watch_text.proofs.Readings.{none_pending}
 use Rattle.chi_watch_text.proofs.RefusedLater.{found_refused, refused_fault}
 use Rattle.chi_watch_text.proofs.ToldTexts.{whole_front, at_fault, begun_more, but_at_fault, told_more}
-use Rattle.chi_watch_text.proofs.Told.{at_end, at_stop, event_taken, far_at_end, found_of, found_so_far, kept_at_fault, none_found, none_taken, passed_on, reached_by_found, settled, took, undecided_after, reached_all, reached_at_end}
+use Rattle.chi_watch_text.proofs.Told.{at_end, at_stop, event_taken, far_at_end, found_of, found_so_far, kept_at_fault, none_found, none_taken, no_fault, not_ok, passed_on, reached_by_found, settled, took, undecided_after, reached_all, reached_at_end}
 use Rattle.chi_watch_text.proofs.Refused.{but_write, held_up, where_not_taken, where_refused}
 use Rattle.chi_watch_text.proofs.watching.watch_each.Goals as goal
 use Rattle.chi_search.specs.Looks.{for_verdict}
 
 pub loop-init : goal.loop-init
 loop-init g c = record {
-  taken = none_taken (g.R.Read.remaining c.args.from.now) c.new-watch.result c.new-reading.result c.args.found.now.items c.new-quiet.result.items ([], c.new-watch.ensures) (c.new-reading.ensures.given (g.R.Read.remaining c.args.from.now))
-      c.requires c.new-quiet.ensures.items;
-  once = λ i j d before below. absurd (let none = ap length c.requires in omega (arith, before, below, none));
-  told = ([], ([], c.new-watch.ensures));
-  reached = subst (All (λ (f : FoundGranule). IsReachedBy (g.P.Progress.looked for_verdict) c.args.progress.now c.args.progress.now c.args.options.now.budget f.reach f.cut_short)) (sym c.requires)
+  taken = none_taken (g.R.Read.remaining c.args.from.now) c.args.watch c.new-reading.result c.args.found.now.items c.new-quiet.result.items ([], c.requires.untold) (c.new-reading.ensures.given (g.R.Read.remaining c.args.from.now))
+      c.requires.none c.new-quiet.ensures.items;
+  once = λ i j d before below. absurd (let none = ap length c.requires.none in omega (arith, before, below, none));
+  told = ([], ([], c.requires.untold));
+  reached = subst (All (λ (f : FoundGranule). IsReachedBy (g.P.Progress.looked for_verdict) c.args.progress.now c.args.progress.now c.args.options.now.budget f.reach f.cut_short)) (sym c.requires.none)
       (All-nil (λ (f : FoundGranule). IsReachedBy (g.P.Progress.looked for_verdict) c.args.progress.now c.args.progress.now c.args.options.now.budget f.reach f.cut_short));
-  written = subst (λ (l : List FoundGranule). Appends (g.W.Write.contents c.args.to.now) (g.W.Write.contents c.args.to.now) (flat_map found_text l)) (sym c.requires) (nothing_written (g.W.Write.contents c.args.to.now));
-  first = λ stop. c.requires;
+  written = subst (λ (l : List FoundGranule). Appends (g.W.Write.contents c.args.to.now) (g.W.Write.contents c.args.to.now) (flat_map found_text l)) (sym c.requires.none) (nothing_written (g.W.Write.contents c.args.to.now));
+  first = λ stop. c.requires.none;
   looked = looked_none (g.P.Progress.looked for_verdict) c.args.progress.now;
   kept = none_kept (g.R.Read.remaining c.args.from.now) c.nothing_kept-kept.result c.nothing_kept-kept.ensures.empty;
   keeps = c.nothing_kept-kept.ensures.keeps;
@@ -280,3 +280,41 @@ returns-in_err-ended-clause-kept g c =
 
 pub returns-clause-begun : goal.returns-clause-begun
 returns-clause-begun g c = whole_front (g.W.Write.contents c.args.to.now) (g.W.Write.contents c.loop.to) (flat_map found_text c.loop.found.items) c.loop.invariant.written
+
+pub returns-then-stops-clause-told : goal.returns-then-stops-clause-told
+returns-then-stops-clause-told g c =
+    subst (λ (l : List FoundGranule). Appends (g.W.Write.contents c.args.to.now) (g.W.Write.contents c.judge_quiet.new.to) (flat_map found_text l)) (sym c.stopped.ensures.told.found_is)
+    (told_more c.loop.found.items c.judge_quiet.new.found.items (g.W.Write.contents c.args.to.now) (g.W.Write.contents c.loop.to) (g.W.Write.contents c.judge_quiet.new.to) c.loop.invariant.written c.in_ok-judge_quiet.ensures.told)
+
+pub returns-then-stops-clause-found : goal.returns-then-stops-clause-found
+returns-then-stops-clause-found g c = no_fault (g.R.Read.remaining c.args.from.now)
+
+pub returns-then-stops-clause-far : goal.returns-then-stops-clause-far
+returns-then-stops-clause-far g c =
+    let start = g.R.Read.remaining c.args.from.now in
+    subst (λ (o : Option Ending). IfSome start (λ text. IfSome o (λ e. AreAsFar (g.P.Progress.looked for_verdict) c.args.progress.now c.judge_quiet.new.progress c.args.options.now.budget c.args.options.now.format text e.undecided.items)))
+    (sym c.stopped.ensures.ending) (no_fault start)
+
+pub returns-in_err-ended-clause-watched : goal.returns-in_err-ended-clause-watched
+returns-in_err-ended-clause-watched g c = not_ok c.from_residual-in_err-ended.result _ (g.R.Read.remaining c.args.from.now) _ c.from_residual-in_err-ended.ensures.1
+
+pub returns-in_err-ended-clause-fault : goal.returns-in_err-ended-clause-fault
+returns-in_err-ended-clause-fault g c =
+    let start = g.R.Read.remaining c.args.from.now in
+    passed_on c.from_residual-in_err-ended.result fault.Memory (λ (r : Result Watched LinesFault). IfSome start (λ text. IfErr r (IsWatchingFault c.args.options.now.format text)))
+    c.from_residual-in_err-ended.ensures.1 (held_up c.args.options.now.format start fault.Memory (inl refl))
+
+pub returns-in_err-ended-clause-far : goal.returns-in_err-ended-clause-far
+returns-in_err-ended-clause-far g c = not_ok c.from_residual-in_err-ended.result _ (g.R.Read.remaining c.args.from.now) _ c.from_residual-in_err-ended.ensures.1
+
+pub returns-in_default-clause-fault : goal.returns-in_default-clause-fault
+returns-in_default-clause-fault g c = no_fault (g.R.Read.remaining c.args.from.now)
+
+pub returns-in_default-clause-found : goal.returns-in_default-clause-found
+returns-in_default-clause-found g c = no_fault (g.R.Read.remaining c.args.from.now)
+
+pub returns-in_err-take_line-clause-watched : goal.returns-in_err-take_line-clause-watched
+returns-in_err-take_line-clause-watched g c = not_ok c.from_residual-in_err-take_line.result _ (g.R.Read.remaining c.args.from.now) _ c.from_residual-in_err-take_line.ensures.1
+
+pub returns-in_err-take_line-clause-far : goal.returns-in_err-take_line-clause-far
+returns-in_err-take_line-clause-far g c = not_ok c.from_residual-in_err-take_line.result _ (g.R.Read.remaining c.args.from.now) _ c.from_residual-in_err-take_line.ensures.1

@@ -7,5 +7,5 @@ use Rattle.chi_watch.proofs.watch.Watch.counts.Goals as goal
 pub returns-clause-counted : goal.returns-clause-counted
 returns-clause-counted c events (ended, is) = record {
   ended = ap (λ (w : WatchValue). w.ended) c.self.view_is ∙ ended_counted events ended c.args.self.now is;
-  outstanding = ap length c.requests.ensures.requests ∙ (ap (λ (w : WatchValue). length w.outstanding.requests) c.self.view_is ∙ outstanding_counted events ended c.args.self.now is);
+  outstanding = c.count.ensures.count ∙ (ap (λ (w : WatchValue). length w.outstanding.requests) c.self.view_is ∙ outstanding_counted events ended c.args.self.now is);
 }

@@ -9,7 +9,6 @@ use Rattle.chi_events.specs.Outstanding.{IsOpen}
 use Rattle.chi_events.specs.declared.event.Event.{Event}
 use Rattle.chi_events.specs.declared.outstanding.Open.{Open}
 use Rattle.chi_search.specs.Looks.{Grew, GrewBy, for_verdict}
-use Rattle.chi_judge.specs.Reaches.{IfUndecided}
 use Rattle.chi_search.proofs.Growing.{at_least_after, at_least_before, some_after}
 use Rattle.chi_watch.specs.Endings.{AreToldTo, CanClose, IsInexplicableAt, IsListed}
 use Rattle.chi_watch.specs.Judged.{CanBeExplained}
@@ -49,13 +48,13 @@ listed_sorted found sorted g undecided moved (inr there) = inr there
 pub returns-clause-explained : goal.returns-clause-explained
 returns-clause-explained g c unexplained undecided events has =
     let new = get nat_cmp c.close_open.new.granules in
-    let closes = closes_of _ c.args.self _ new c.self.view_is c.requests-requests.ensures.requests c.in_ok-close_open.ensures.told in
-    let are_open = subst (λ (w : WatchValue). All (IsOpen w.outstanding.time) w.outstanding.requests) c.self.view_is c.requests-requests.ensures.are_open in
+    let closes = closes_of _ c.args.self _ new c.self.view_is (c.deref.ensures.value ∙ c.in_ok-requests.ensures.requests) c.in_ok-close_open.ensures.told in
+    let are_open = subst (λ (w : WatchValue). All (IsOpen w.outstanding.time) w.outstanding.requests) c.self.view_is c.requests.ensures.are_open in
     let un = c.in_ok-listed.listed.unexplained.items in
-    let same : granules_of c.in_ok-found.found.items ≡ un = c.in_ok-found.ensures.granules ∙ c.deref.ensures.value in
+    let same : granules_of c.in_ok-found.found.items ≡ un = c.in_ok-found.ensures.granules ∙ c.deref-2.ensures.value in
     let no_un : un ≡ [] = sym same ∙ ap granules_of (none_sorted c.in_ok-found.found.items c.in_ok-unexplained.unexplained.items c.in_ok-unexplained.ensures.same unexplained) in
     let dec = c.in_ok-listed.listed.undecided.items in
-    let same_dec : undecided_of c.in_ok-undecided.undecided.items ≡ dec = c.in_ok-undecided.ensures.granules ∙ c.deref-2.ensures.value in
+    let same_dec : undecided_of c.in_ok-undecided.undecided.items ≡ dec = c.in_ok-undecided.ensures.granules ∙ c.deref-3.ensures.value in
     let no_dec : dec ≡ [] = sym same_dec ∙ ap undecided_of undecided in
     ended_explained c.operations_are_told.ensures c.granules_stand_alone.ensures c.granules_explain.ensures c.args.self new are_open closes
     (λ h. none_listed h un dec no_un no_dec (new h) (c.in_ok-listed.ensures.each h)) events has
@@ -63,13 +62,13 @@ returns-clause-explained g c unexplained undecided events has =
 pub returns-clause-each : goal.returns-clause-each
 returns-clause-each g c h events has =
     let new = get nat_cmp c.close_open.new.granules in
-    let closes = closes_of _ c.args.self _ new c.self.view_is c.requests-requests.ensures.requests c.in_ok-close_open.ensures.told in
-    let are_open = subst (λ (w : WatchValue). All (IsOpen w.outstanding.time) w.outstanding.requests) c.self.view_is c.requests-requests.ensures.are_open in
+    let closes = closes_of _ c.args.self _ new c.self.view_is (c.deref.ensures.value ∙ c.in_ok-requests.ensures.requests) c.in_ok-close_open.ensures.told in
+    let are_open = subst (λ (w : WatchValue). All (IsOpen w.outstanding.time) w.outstanding.requests) c.self.view_is c.requests.ensures.are_open in
     let un = c.in_ok-listed.listed.unexplained.items in
-    let same : granules_of c.in_ok-found.found.items ≡ un = c.in_ok-found.ensures.granules ∙ c.deref.ensures.value in
+    let same : granules_of c.in_ok-found.found.items ≡ un = c.in_ok-found.ensures.granules ∙ c.deref-2.ensures.value in
     let dec = c.in_ok-listed.listed.undecided.items in
     let told = undecided_of c.in_ok-undecided.undecided.items in
-    let same_dec : told ≡ dec = c.in_ok-undecided.ensures.granules ∙ c.deref-2.ensures.value in
+    let same_dec : told ≡ dec = c.in_ok-undecided.ensures.granules ∙ c.deref-3.ensures.value in
     let said : CanBeExplained events h ⊎ IsListed h (granules_of c.in_ok-found.found.items) told =
     subst (λ (l : List ℕ). CanBeExplained events h ⊎ IsListed h (granules_of c.in_ok-found.found.items) l) (sym same_dec)
     (subst (λ (l : List ℕ). CanBeExplained events h ⊎ IsListed h l dec) (sym same)
@@ -82,10 +81,10 @@ returns-clause-each g c h events has =
 pub returns-clause-unexplained : goal.returns-clause-unexplained
 returns-clause-unexplained g c =
     let new = get nat_cmp c.close_open.new.granules in
-    let closes = closes_of _ c.args.self _ new c.self.view_is c.requests-requests.ensures.requests c.in_ok-close_open.ensures.told in
-    let are_open = subst (λ (w : WatchValue). All (IsOpen w.outstanding.time) w.outstanding.requests) c.self.view_is c.requests-requests.ensures.are_open in
+    let closes = closes_of _ c.args.self _ new c.self.view_is (c.deref.ensures.value ∙ c.in_ok-requests.ensures.requests) c.in_ok-close_open.ensures.told in
+    let are_open = subst (λ (w : WatchValue). All (IsOpen w.outstanding.time) w.outstanding.requests) c.self.view_is c.requests.ensures.are_open in
     let un = c.in_ok-listed.listed.unexplained.items in
-    let same : granules_of c.in_ok-found.found.items ≡ un = c.in_ok-found.ensures.granules ∙ c.deref.ensures.value in
+    let same : granules_of c.in_ok-found.found.items ≡ un = c.in_ok-found.ensures.granules ∙ c.deref-2.ensures.value in
     All-permutation (λ (f : FoundAtEnd). (events : List Event) → HasTaken events c.args.self → IsFoundAtEnd events f) c.in_ok-found.found.items c.in_ok-unexplained.unexplained.items c.in_ok-unexplained.ensures.same
     (all_listed (λ (f : FoundAtEnd). f.granule) (λ h. IsInexplicableAt (new h)) (IsFoundIn new) (λ (f : FoundAtEnd). (events : List Event) → HasTaken events c.args.self → IsFoundAtEnd events f) c.in_ok-found.found.items un same c.in_ok-listed.ensures.unexplained
     c.in_ok-found.ensures.found (ended_found c.operations_are_told.ensures c.parts_explain.ensures c.args.self new are_open closes))
@@ -93,10 +92,10 @@ returns-clause-unexplained g c =
 pub returns-clause-reached : goal.returns-clause-reached
 returns-clause-reached g c =
     let new = get nat_cmp c.close_open.new.granules in
-    let closes = closes_of _ c.args.self _ new c.self.view_is c.requests-requests.ensures.requests c.in_ok-close_open.ensures.told in
-    let are_open = subst (λ (w : WatchValue). All (IsOpen w.outstanding.time) w.outstanding.requests) c.self.view_is c.requests-requests.ensures.are_open in
+    let closes = closes_of _ c.args.self _ new c.self.view_is (c.deref.ensures.value ∙ c.in_ok-requests.ensures.requests) c.in_ok-close_open.ensures.told in
+    let are_open = subst (λ (w : WatchValue). All (IsOpen w.outstanding.time) w.outstanding.requests) c.self.view_is c.requests.ensures.are_open in
     let un = c.in_ok-listed.listed.unexplained.items in
-    let same : granules_of c.in_ok-found.found.items ≡ un = c.in_ok-found.ensures.granules ∙ c.deref.ensures.value in
+    let same : granules_of c.in_ok-found.found.items ≡ un = c.in_ok-found.ensures.granules ∙ c.deref-2.ensures.value in
     let looked = g.P.Progress.looked for_verdict in
     let old = c.args.progress.now in
     let closed = c.close_open.new.progress in
@@ -122,23 +121,23 @@ returns-clause-undecided g c =
     let last = c.each_undecided.new.progress in
     let after : Grew looked judged last = some_after looked judged reached last c.in_ok-found.ensures.looked c.in_ok-undecided.ensures.looked in
     all_listed (λ (u : UndecidedAtEnd). u.granule) (λ h. GrewBy looked closed judged c.args.budget) (IsExplainedIn new) (λ (u : UndecidedAtEnd). GrewBy looked old last c.args.budget)
-    c.in_ok-undecided.undecided.items c.in_ok-listed.listed.undecided.items (c.in_ok-undecided.ensures.granules ∙ c.deref-2.ensures.value) c.in_ok-listed.ensures.undecided c.in_ok-undecided.ensures.explained
+    c.in_ok-undecided.undecided.items c.in_ok-listed.listed.undecided.items (c.in_ok-undecided.ensures.granules ∙ c.deref-3.ensures.value) c.in_ok-listed.ensures.undecided c.in_ok-undecided.ensures.explained
     (λ u whole said. at_least_before looked old judged last c.args.budget (at_least_after looked old closed judged c.args.budget c.in_ok-close_open.ensures.looked whole) after)
 
 pub returns-clause-explained_to : goal.returns-clause-explained_to
 returns-clause-explained_to g c =
     let new = get nat_cmp c.close_open.new.granules in
-    let closes = closes_of _ c.args.self _ new c.self.view_is c.requests-requests.ensures.requests c.in_ok-close_open.ensures.told in
-    let are_open = subst (λ (w : WatchValue). All (IsOpen w.outstanding.time) w.outstanding.requests) c.self.view_is c.requests-requests.ensures.are_open in
+    let closes = closes_of _ c.args.self _ new c.self.view_is (c.deref.ensures.value ∙ c.in_ok-requests.ensures.requests) c.in_ok-close_open.ensures.told in
+    let are_open = subst (λ (w : WatchValue). All (IsOpen w.outstanding.time) w.outstanding.requests) c.self.view_is c.requests.ensures.are_open in
     all_listed (λ (u : UndecidedAtEnd). u.granule) (λ h. GoesOnAt (new h)) (IsExplainedIn new) (λ (u : UndecidedAtEnd). (events : List Event) → HasTaken events c.args.self → IsExplainedTo events u)
-    c.in_ok-undecided.undecided.items c.in_ok-listed.listed.undecided.items (c.in_ok-undecided.ensures.granules ∙ c.deref-2.ensures.value) c.in_ok-listed.ensures.go_on c.in_ok-undecided.ensures.explained
+    c.in_ok-undecided.undecided.items c.in_ok-listed.listed.undecided.items (c.in_ok-undecided.ensures.granules ∙ c.deref-3.ensures.value) c.in_ok-listed.ensures.go_on c.in_ok-undecided.ensures.explained
     (ended_explained_to c.operations_are_told.ensures c.args.self new are_open closes)
 
 pub returns-clause-far : goal.returns-clause-far
 returns-clause-far g c =
     let new = get nat_cmp c.close_open.new.granules in
-    let closes = closes_of _ c.args.self _ new c.self.view_is c.requests-requests.ensures.requests c.in_ok-close_open.ensures.told in
-    let are_open = subst (λ (w : WatchValue). All (IsOpen w.outstanding.time) w.outstanding.requests) c.self.view_is c.requests-requests.ensures.are_open in
+    let closes = closes_of _ c.args.self _ new c.self.view_is (c.deref.ensures.value ∙ c.in_ok-requests.ensures.requests) c.in_ok-close_open.ensures.told in
+    let are_open = subst (λ (w : WatchValue). All (IsOpen w.outstanding.time) w.outstanding.requests) c.self.view_is c.requests.ensures.are_open in
     let looked = g.P.Progress.looked for_verdict in
     let old = c.args.progress.now in
     let closed = c.close_open.new.progress in
@@ -148,7 +147,7 @@ returns-clause-far g c =
     let budget = c.args.budget in
     let items = c.in_ok-undecided.undecided.items in
     let dec = c.in_ok-listed.listed.undecided.items in
-    let same_dec : undecided_of items ≡ dec = c.in_ok-undecided.ensures.granules ∙ c.deref-2.ensures.value in
+    let same_dec : undecided_of items ≡ dec = c.in_ok-undecided.ensures.granules ∙ c.deref-3.ensures.value in
     let count : length dec ≡ length items = ap length (sym same_dec) ∙ length-map items (λ (u : UndecidedAtEnd). u.granule) in
     let before : GrewBy looked old reached (budget * length items) =
     subst (λ (n : ℕ). GrewBy looked old reached (budget * n)) count
@@ -173,4 +172,4 @@ returns-clause-looked g c =
 pub each_undecided-requires : goal.each_undecided-requires
 each_undecided-requires g c =
     let new = get nat_cmp c.close_open.new.granules in
-    record { go_on = subst (λ (l : List ℕ). All (λ h. GoesOnAt (new h)) l) (sym c.deref-2.ensures.value) c.in_ok-listed.ensures.go_on }
+    record { go_on = subst (λ (l : List ℕ). All (λ h. GoesOnAt (new h)) l) (sym c.deref-3.ensures.value) c.in_ok-listed.ensures.go_on }

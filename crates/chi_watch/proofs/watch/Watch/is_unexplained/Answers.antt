@@ -7,7 +7,7 @@ use Rattle.chi_events.specs.declared.event.Event.{Event}
 use Rattle.chi_watch.specs.Endings.{IsExplainable}
 use Rattle.chi_watch.specs.Judged.{CanBeExplained, is_known}
 use Rattle.chi_search.specs.Looks.{GrewBy, for_verdict}
-use Rattle.chi_watch.specs.Requests.{granule_of_request}
+use Rattle.chi_events.specs.Granules.{granule_of_request}
 use Rattle.chi_watch.specs.Watches.{CanBeJudged, HasTaken, IsFound, IsUnexplained, WatchValue, granule}
 use Rattle.chi_watch.proofs.Found.{found_is, not_found_is}
 use Rattle.chi_watch.proofs.watch.Watch.is_unexplained.Goals as goal
@@ -17,7 +17,7 @@ IsQuietAt w g = list_any (λ p. granule_of_request p == g) w.outstanding.request
 
 pub returns-clause-found : goal.returns-clause-found
 returns-clause-found g c =
-    let are_open = subst (λ (w : WatchValue). All (IsOpen w.outstanding.time) w.outstanding.requests) c.self.view_is c.requests-requests.ensures.are_open in
+    let are_open = subst (λ (w : WatchValue). All (IsOpen w.outstanding.time) w.outstanding.requests) c.self.view_is c.count-count.ensures.are_open in
     IfOk-weaker c.is_found.result (λ (is : Bool). IsTrue is → IsFound c.args.self.now c.args.granule)
     (λ (is : Bool). IsTrue is → (events : List Event) → HasTaken events c.args.self.now → IsUnexplained events c.args.granule)
     (λ is found so events has. found_is c.operations_are_told.ensures c.parts_explain.ensures events c.args.self.now are_open has c.args.granule (found so))
@@ -30,7 +30,7 @@ returns-clause-quiet g c =
 
 pub returns-clause-judged : goal.returns-clause-judged
 returns-clause-judged g c =
-    let are_open = subst (λ (w : WatchValue). All (IsOpen w.outstanding.time) w.outstanding.requests) c.self.view_is c.requests-requests.ensures.are_open in
+    let are_open = subst (λ (w : WatchValue). All (IsOpen w.outstanding.time) w.outstanding.requests) c.self.view_is c.count-count.ensures.are_open in
     let w = c.args.self.now in
     let here = c.args.granule in
     let whole = GrewBy (g.P.Progress.looked for_verdict) c.args.progress.now c.is_found.new.progress c.args.budget in

@@ -23,7 +23,7 @@ some_time (Some time) some none = true≢false (sym none)
 pub returns-in_default-clause-undecided : goal.returns-in_default-clause-undecided
 returns-in_default-clause-undecided g c can events has not =
     let w = c.args.self.now in
-    let are_open = subst (λ (v : WatchValue). All (IsOpen v.outstanding.time) v.outstanding.requests) c.self.view_is c.requests-requests.ensures.are_open in
+    let are_open = subst (λ (v : WatchValue). All (IsOpen v.outstanding.time) v.outstanding.requests) c.self.view_is c.count-count.ensures.are_open in
     let none : granule w c.args.granule ≡ None = subst (λ (v : WatchValue). granule v c.args.granule ≡ None) c.self.view_is (sym c.in_default.ensures.value) in
     absurd (untold_explained c.operations_are_told.ensures c.granules_stand_alone.ensures events w are_open has c.args.granule none can not)
 
@@ -43,7 +43,7 @@ returns-clause-right g c =
     let w = c.args.self.now in
     let f = c.in-Some.followed.now in
     let n = c.args.granule in
-    let are_open = subst (λ (v : WatchValue). All (IsOpen v.outstanding.time) v.outstanding.requests) c.self.view_is c.requests-requests.ensures.are_open in
+    let are_open = subst (λ (v : WatchValue). All (IsOpen v.outstanding.time) v.outstanding.requests) c.self.view_is c.count-count.ensures.are_open in
     let here : granule w n ≡ Some f = subst (λ (v : WatchValue). granule v n ≡ Some f) c.self.view_is (sym c.in-Some.ensures.value) in
     let can = can_be w n f here (sym c.can_be_judged.ensures ∙ c.if-not-can_be_judged.false) in
     IfOk-weaker c.reach_of.result (λ (found : FoundReach). ReachesBy f.judge found.reach) (λ (found : FoundReach). (events : List Event) → HasTaken events w → IsReach events n found.reach)
@@ -55,7 +55,7 @@ returns-clause-undecided g c =
     let w = c.args.self.now in
     let f = c.in-Some.followed.now in
     let n = c.args.granule in
-    let are_open = subst (λ (v : WatchValue). All (IsOpen v.outstanding.time) v.outstanding.requests) c.self.view_is c.requests-requests.ensures.are_open in
+    let are_open = subst (λ (v : WatchValue). All (IsOpen v.outstanding.time) v.outstanding.requests) c.self.view_is c.count-count.ensures.are_open in
     let here : granule w n ≡ Some f = subst (λ (v : WatchValue). granule v n ≡ Some f) c.self.view_is (sym c.in-Some.ensures.value) in
     let Reached : FoundReach → Type 0 = λ (found : FoundReach). IsReachedBy (g.P.Progress.looked for_verdict) c.args.progress.now c.reach_of.new.progress c.args.budget found.reach found.cut_short in
     IfOk-weaker c.reach_of.result (λ (found : FoundReach). IsOfSomeTrace f.judge → Reached found)

@@ -4,7 +4,7 @@ use Rattle.std.specs.List.{list_any}
 use Rattle.chi_watch.specs.Judged.{CanBeExplained, is_known}
 use Rattle.chi_search.specs.Looks.{GrewBy, for_verdict}
 use Rattle.chi_watch.specs.Quiet.{granule_about}
-use Rattle.chi_watch.specs.Requests.{granule_of_request}
+use Rattle.chi_events.specs.Granules.{granule_of_request}
 use Rattle.chi_search.proofs.Growing.{at_least_after, some_after}
 use Rattle.chi_watch.proofs.Taken.{taken_more}
 use Rattle.chi_watch.proofs.watch.Watch.take.Goals as goal

@@ -3,7 +3,7 @@ use Rattle.std.proofs.Common.{◌≡◌, List}
 use Rattle.chi_events.specs.declared.event.Event.{Event}
 use Rattle.chi_watch_text.specs.Recorded.{HasRecorded}
 use Rattle.chi_watch_text.proofs.Recordings.{HasRecordedLines}
-use Rattle.chi_watch_text.proofs.recorded.read_events.Given as goal
+use Rattle.chi_watch_text.proofs.recorded.record_each.Given as goal
 
 abbrev pub invariant-loop : goal.invariant-loop
 invariant-loop g l = record {

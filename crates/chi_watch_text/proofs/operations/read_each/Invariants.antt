@@ -1,7 +1,7 @@
 -- the events that were given were read
 use Rattle.std.proofs.Common.{◌≡◌}
 use Rattle.chi_watch_text.proofs.AllRead.{HasRead}
-use Rattle.chi_watch_text.proofs.operations.read_operations.Given as goal
+use Rattle.chi_watch_text.proofs.operations.read_each.Given as goal
 
 abbrev pub invariant-loop : goal.invariant-loop
 invariant-loop g l = record {

@@ -10,14 +10,14 @@ use Rattle.chi_watch_text.specs.declared.line_format.LineFormat.{LineFormat}
 use Rattle.chi_watch_text.proofs.Recordings.{all_recorded, event_recorded, none_recorded, taken_lines}
 use Rattle.chi_watch_text.proofs.Refused.{where_not_taken, where_refused}
 use Rattle.chi_watch_text.proofs.Told.{passed_on}
-use Rattle.chi_watch_text.proofs.recorded.read_events.Goals as goal
+use Rattle.chi_watch_text.proofs.recorded.record_each.Goals as goal
 
 pub loop-init : goal.loop-init
 loop-init g c =
     let start = g.R.Read.remaining c.args.from.now in
     record {
-      lines = none_recorded start c.new-recording.result c.new-reading.result c.new-recording.ensures (c.new-reading.ensures.given start);
-      recorded = ([], c.new-recording.ensures);
+      lines = none_recorded start c.args.recording c.new-reading.result c.requires (c.new-reading.ensures.given start);
+      recorded = ([], c.requires);
       format = c.new-reading.ensures.format;
     }
 

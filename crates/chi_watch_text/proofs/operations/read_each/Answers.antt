@@ -10,13 +10,13 @@ use Rattle.chi_watch_text.specs.declared.line_format.LineFormat.{LineFormat}
 use Rattle.chi_watch_text.specs.declared.operations.OperationsTold.{OperationsTold}
 use Rattle.chi_watch_text.proofs.AllRead.{all_read, all_refused, event_refused, line_refused, none_read, read_more}
 use Rattle.chi_watch_text.proofs.Told.{passed_on}
-use Rattle.chi_watch_text.proofs.operations.read_operations.Goals as goal
+use Rattle.chi_watch_text.proofs.operations.read_each.Goals as goal
 
 pub loop-init : goal.loop-init
 loop-init g c =
     let start = g.R.Read.remaining c.args.from.now in
     record {
-      read = none_read start c.new-outstanding.result c.new-reading.result c.new-ops.result.items c.new-refusals.result.items c.new-outstanding.ensures.tells (c.new-reading.ensures.given start)
+      read = none_read start c.args.outstanding c.new-reading.result c.new-ops.result.items c.new-refusals.result.items c.requires (c.new-reading.ensures.given start)
           c.new-ops.ensures.items c.new-refusals.ensures.items;
       format = c.new-reading.ensures.format;
     }
