@@ -25,7 +25,7 @@ put_all-more (x ∷ ms) m found = put_all-more ms m (put x.0.now (datum_data x.1
 pub put_all-push : (ms more : List Entry) (m : Entry) → more ≡ ms ++ m ∷ [] → put_all more no_members ≡ put m.0.now (datum_data m.1) (put_all ms no_members)
 put_all-push ms more m is = ap (λ (l : List Entry). put_all l no_members) is ∙ put_all-more ms m no_members
 
-put_all-take : (ms : List Entry) (j i : ℕ) (m : Entry) → j ≡ i + 1 → i < length ms → m ≡ get_or ms i m
+pub put_all-take : (ms : List Entry) (j i : ℕ) (m : Entry) → j ≡ i + 1 → i < length ms → m ≡ get_or ms i m
     → put_all (take j ms) no_members ≡ put m.0.now (datum_data m.1) (put_all (take i ms) no_members)
 put_all-take ms j i m next within is =
     ap (λ (n : ℕ). put_all (take n ms) no_members) next
@@ -61,7 +61,7 @@ module _ {M : Type 0} (name_of : M → List ℕ) (known : List (List M)) where
   put_at Equal k l d e ms is none later = none
   put_at Greater k l d e ms is none later = passed (is_known name_of known l) (unknown_in name_of known ms) (unknown_in name_of known (put k d ms)) (shown_text l) later none
 
-  unknown_in-put : (k : List ℕ) (d : Data) (ms : Members) → is_known name_of known k ≡ true → unknown_in name_of known ms ≡ None → unknown_in name_of known (put k d ms) ≡ None
+  pub unknown_in-put : (k : List ℕ) (d : Data) (ms : Members) → is_known name_of known k ≡ true → unknown_in name_of known ms ≡ None → unknown_in name_of known (put k d ms) ≡ None
   unfolding unknown_in
   unknown_in-put k d no_members is none = rw is refl
   unknown_in-put k d (member l e ms) is none = put_at (slice_cmp nat_cmp k l) k l d e ms is none (unknown_in-put k d ms is)

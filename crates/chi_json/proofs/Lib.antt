@@ -1,5 +1,5 @@
-mod FlatLemmas
-mod FlatReading
+pub mod FlatLemmas
+pub mod FlatReading
 pub mod ObjectLemmas
 mod ShownTexts
 mod UnknownNames

@@ -22,9 +22,13 @@ fn is_among<M: Named>(name: &str, known: &[M]) -> bool
     known.iter().any(|member| member.name() == name)
 }
 
-/// Whether an object that may have the members of some lists may have one of this name.
+/// Whether an object that may have the members of some lists may have one of this name, which begins with `x-` or is that of a member.
+///
+/// ```
+/// let is_other = !is_known(name, &[&[Member::Time], &FIELDS]);
+/// ```
 #[tactic(auto, unfolding(crate::specs::Unknown::is_known))]
-pub(crate) fn is_known<M: Named>(name: &str, known: &[&[M]]) -> bool
+pub fn is_known<M: Named>(name: &str, known: &[&[M]]) -> bool
     ensures { result ≡ is_known M.name_of (map (λ members. members.now) known.now) name.now }
 {
     is_ignored(name) || known.iter().any(|members| is_among(name, members))

@@ -3,5 +3,7 @@ mod Joined
 pub mod LineValues
 mod ObjectText
 mod OneMore
+mod Outlines
 pub mod RegionText
+mod SameMemory
 mod ToldSoFar

@@ -48,19 +48,16 @@ kind_named s =
 abbrev pub kind_of : Data → Option LineKind
 kind_of d = option_and_then kind_named (as_str d)
 
--- the members that each line has, and those that one of a kind may have
-abbrev event_members : List Member
-event_members = name.Event ∷ name.Time ∷ []
-
+-- the members that a line of a kind may have
 abbrev pub members_of : LineKind → List (List Member)
-members_of line.Request = event_members ∷ (name.Id ∷ []) ∷ request_members ∷ []
-members_of line.Data = event_members ∷ (name.Id ∷ name.Be ∷ name.Lanes ∷ []) ∷ []
-members_of line.Reply = event_members ∷ (name.Id ∷ name.Reply ∷ []) ∷ []
-members_of line.Dropped = event_members ∷ (name.Id ∷ []) ∷ []
-members_of line.Refused = event_members ∷ (name.Id ∷ name.Reason ∷ []) ∷ []
-members_of line.Word = event_members ∷ (name.Addr ∷ name.Bytes ∷ name.Final ∷ []) ∷ []
-members_of line.Unknown = event_members ∷ (name.Addr ∷ name.Length ∷ []) ∷ []
-members_of line.End = event_members ∷ []
+members_of line.Request = (name.Time ∷ name.Event ∷ name.Id ∷ request_members) ∷ []
+members_of line.Data = (name.Time ∷ name.Event ∷ name.Id ∷ name.Be ∷ name.Lanes ∷ []) ∷ []
+members_of line.Reply = (name.Time ∷ name.Event ∷ name.Id ∷ name.Reply ∷ []) ∷ []
+members_of line.Dropped = (name.Time ∷ name.Event ∷ name.Id ∷ []) ∷ []
+members_of line.Refused = (name.Time ∷ name.Event ∷ name.Id ∷ name.Reason ∷ []) ∷ []
+members_of line.Word = (name.Time ∷ name.Event ∷ name.Addr ∷ name.Bytes ∷ name.Final ∷ []) ∷ []
+members_of line.Unknown = (name.Time ∷ name.Event ∷ name.Addr ∷ name.Length ∷ []) ∷ []
+members_of line.End = (name.Time ∷ name.Event ∷ []) ∷ []
 
 -- ---- what is told
 

@@ -3,6 +3,7 @@ pub mod Faults
 pub mod Mark
 pub mod Member
 pub mod OtherKind
+pub mod Outline
 pub mod Refused
 pub mod Requests
 pub mod Told

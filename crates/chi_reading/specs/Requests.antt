@@ -88,8 +88,8 @@ stated_of number d = do
 
 -- the members that a request of this outcome has
 abbrev pub members_of : Outcome → List (List Member)
-members_of (Accepted reply) = request_members ∷ (member.Start ∷ member.End ∷ member.Reply ∷ []) ∷ []
-members_of (Refused reason) = request_members ∷ (member.Start ∷ member.End ∷ member.Refused ∷ []) ∷ []
+members_of (Accepted reply) = (member.Start ∷ member.End ∷ member.Reply ∷ []) ∷ request_members ∷ []
+members_of (Refused reason) = (member.Start ∷ member.End ∷ member.Refused ∷ []) ∷ request_members ∷ []
 
 -- the same of the element at a place
 unfoldable pub stated_at : ℕ → Data → Result Stated RequestFault

@@ -14,7 +14,7 @@ use Rattle.chi_trace.specs.Words.{find_word}
 use Rattle.chi_reading.specs.declared.member.Member.TheVariants as member
 use Rattle.chi_reading.specs.Mark.{text_value}
 use Rattle.chi_reading.specs.Member.{member_name, trace_members}
-use Rattle.chi_reading.specs.declared.recorded.Memory.{Memory}
+use Rattle.chi_reading.specs.declared.memory.Memory.{Memory}
 use Rattle.chi_reading.specs.declared.fault.TraceFault.{TraceFault}
 use Rattle.chi_json.specs.declared.fault.ObjectFault.TheVariants.{NotObject, UnknownMember}
 use Rattle.chi_reading.specs.declared.fault.TraceFault.TheVariants.{Object, OfEvents, OfFlits, RegionRefused}

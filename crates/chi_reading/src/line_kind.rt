@@ -3,10 +3,22 @@
 ghost use Rattle.std.specs.Prelude.{◌≡◌, map};
 ghost use Rattle.chi_reading.specs.EventText.{kind_named, members_of};
 
-use crate::member::{Member, REQUEST};
+use crate::member::Member;
 
-/// The members that each line has.
-const EVENT: [Member; 2] = [Member::Event, Member::Time];
+/// The members of a line that tells a request, in the order in which most lines have them.
+const REQUEST: [Member; 11] = [
+    Member::Time,
+    Member::Event,
+    Member::Id,
+    Member::Src,
+    Member::Txn,
+    Member::Opcode,
+    Member::Size,
+    Member::Addr,
+    Member::Endian,
+    Member::Be,
+    Member::Lanes,
+];
 
 /// What the member `event` of a line may name. A `Word` is of a granule before its first request, or after its last where
 /// its member `final` says so.
@@ -40,19 +52,31 @@ impl LineKind {
         }
     }
 
-    /// The members that a line of this kind may have.
+    /// The members that a line of this kind may have, in the order in which most lines have them.
     pub(crate) fn members(self) -> &'static [&'static [Member]]
         ensures { map (λ list. list.now) result.now ≡ members_of self }
     {
         match self {
-            LineKind::Request => &[&EVENT, &[Member::Id], &REQUEST],
-            LineKind::Data => &[&EVENT, &[Member::Id, Member::Be, Member::Lanes]],
-            LineKind::Reply => &[&EVENT, &[Member::Id, Member::Reply]],
-            LineKind::Dropped => &[&EVENT, &[Member::Id]],
-            LineKind::Refused => &[&EVENT, &[Member::Id, Member::Reason]],
-            LineKind::Word => &[&EVENT, &[Member::Addr, Member::Bytes, Member::Final]],
-            LineKind::Unknown => &[&EVENT, &[Member::Addr, Member::Length]],
-            LineKind::End => &[&EVENT],
+            LineKind::Request => &[&REQUEST],
+            LineKind::Data => &[&[
+                Member::Time,
+                Member::Event,
+                Member::Id,
+                Member::Be,
+                Member::Lanes,
+            ]],
+            LineKind::Reply => &[&[Member::Time, Member::Event, Member::Id, Member::Reply]],
+            LineKind::Dropped => &[&[Member::Time, Member::Event, Member::Id]],
+            LineKind::Refused => &[&[Member::Time, Member::Event, Member::Id, Member::Reason]],
+            LineKind::Word => &[&[
+                Member::Time,
+                Member::Event,
+                Member::Addr,
+                Member::Bytes,
+                Member::Final,
+            ]],
+            LineKind::Unknown => &[&[Member::Time, Member::Event, Member::Addr, Member::Length]],
+            LineKind::End => &[&[Member::Time, Member::Event]],
         }
     }
 }

@@ -5,7 +5,7 @@ ghost use Rattle.serde_json.specs.View.{items_view, view};
 ghost use Rattle.chi_json.specs.Members.{or_else};
 ghost use Rattle.chi_reading.specs.declared.fault.TraceFault.TheVariants.{InRequest};
 ghost use Rattle.chi_trace.specs.Explains.{IsOperation};
-ghost use Rattle.chi_reading.specs.Requests.{Completed, all_completed, completed_at, completed_of, joined, none_completed, observed_of, one_accepted, one_refused};
+ghost use Rattle.chi_reading.specs.Requests.{Completed, all_completed, completed_at, completed_by, completed_of, joined, none_completed, observed_of, one_accepted, one_refused};
 
 use crate::fault::{MOST_OPERATIONS, RequestFault, TraceFault};
 use crate::refused::refused;
@@ -39,7 +39,7 @@ impl Model for Found {
 
 impl Found {
     /// No request.
-    fn none(alloc: Global) -> Found
+    pub fn none(alloc: Global) -> Found
         ensures { result ≡ none_completed }
     {
         Found {
@@ -100,6 +100,29 @@ fn in_request<T>(place: usize, found: Result<T, RequestFault>) -> Result<T, Trac
     }
 }
 
+/// Adds what came of the request at a place.
+pub(crate) fn add_stated(
+    found: &mut Found,
+    place: usize,
+    region: &Option<Region>,
+    stated: Stated,
+) -> Result<(), TraceFault>
+    ensures ok { OnOk result ((one : Completed) × (completed_by place region.now stated stated.outcome ≡ Ok one) × (found.new ≡ joined found.old one)) }
+    ensures fault { IfErr result (λ f. f ≢ TraceFault.Memory → completed_by place region.now stated stated.outcome ≡ Err f) }
+{
+    match stated.outcome {
+        Outcome::Accepted(reply) => {
+            let operation = in_request(place, observed(*region, stated, reply))?;
+            found.add_accepted(operation)?;
+        }
+        Outcome::Refused(reason) => {
+            let refusal = in_request(place, refused(region, &stated, reason))?;
+            found.add_refused(refusal)?;
+        }
+    }
+    Ok(())
+}
+
 /// Adds what the element at a place is.
 #[tactic(auto, unfolding(crate::specs::Requests::completed_at))]
 fn add_request(
@@ -112,17 +135,7 @@ fn add_request(
     ensures fault { IfErr result (λ f. f ≢ TraceFault.Memory → completed_at place region.now (view value.now) ≡ Err f) }
 {
     let stated = in_request(place, stated_at(place, value))?;
-    match stated.outcome {
-        Outcome::Accepted(reply) => {
-            let operation = in_request(place, observed(*region, stated, reply))?;
-            found.add_accepted(operation)?;
-        }
-        Outcome::Refused(reason) => {
-            let refusal = in_request(place, refused(region, &stated, reason))?;
-            found.add_refused(refusal)?;
-        }
-    }
-    Ok(())
+    add_stated(found, place, region, stated)
 }
 
 /// What some elements are.

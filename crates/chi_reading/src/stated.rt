@@ -1,9 +1,10 @@
 //! What a request of a trace states beside its fields: its times, and what was answered or why it was refused.
 
-ghost use Rattle.std.specs.Prelude.{◌≡◌, map};
+ghost use Rattle.std.specs.Prelude.{◌≡◌, IfSome, Ok, map};
 ghost use Rattle.serde_json.specs.Find.{get};
 ghost use Rattle.serde_json.specs.View.{view};
 ghost use Rattle.chi_json.specs.Datum.{datum_data};
+ghost use Rattle.chi_json.specs.Flat.{flat_data};
 ghost use Rattle.chi_reading.specs.Member.{member_name};
 ghost use Rattle.chi_reading.specs.Requests.{answer_of, end_of, members_of, outcome_by, reply_by, seen_of, stated_at, stated_of};
 
@@ -12,7 +13,9 @@ use crate::fields::request_with_data;
 use crate::member::{Member, REQUEST};
 use crate::refused::refusal_named;
 use chi_fields::Refusal;
-use chi_json::{Datum, JsonObject, MemberFault, ObjectFault, hex_bytes, number, unknown_member};
+use chi_json::{
+    Datum, FlatObject, JsonObject, MemberFault, ObjectFault, hex_bytes, number, unknown_member,
+};
 use chi_lanes::Reply;
 use chi_trace::RequestFields;
 use serde_json::Value;
@@ -33,8 +36,8 @@ impl Outcome {
         ensures { map (λ list. list.now) result.now ≡ members_of self }
     {
         match self {
-            Outcome::Accepted(_) => &[&REQUEST, &[Member::Start, Member::End, Member::Reply]],
-            Outcome::Refused(_) => &[&REQUEST, &[Member::Start, Member::End, Member::Refused]],
+            Outcome::Accepted(_) => &[&[Member::Start, Member::End, Member::Reply], &REQUEST],
+            Outcome::Refused(_) => &[&[Member::Start, Member::End, Member::Refused], &REQUEST],
         }
     }
 }
@@ -141,5 +144,20 @@ pub(crate) fn stated_at(place: usize, value: &Value) -> Result<Stated, RequestFa
     match unknown_member(members, stated.outcome.members()) {
         Some(name) => Err(RequestFault::Object(ObjectFault::UnknownMember(name))),
         None => Ok(stated),
+    }
+}
+
+/// The same of an object that is no `Value`, where it has no fault.
+#[tactic(auto, unfolding(crate::specs::Requests::stated_at))]
+pub(crate) fn flat_stated(place: usize, object: &FlatObject<'_>) -> Option<Stated>
+    ensures { IfSome result (λ s. stated_at place (flat_data object.now) ≡ Ok s) }
+{
+    let Ok(stated) = request_stated(place, object) else {
+        return None;
+    };
+    if object.has_only(stated.outcome.members()) {
+        Some(stated)
+    } else {
+        None
     }
 }

@@ -2,7 +2,7 @@
 use Rattle.std.proofs.Common.{refl}
 use Rattle.chi_json.proofs.WalkLemmas.{at_ok, no_fault}
 use Rattle.chi_reading.proofs.RegionText.{wide_text}
-use Rattle.chi_reading.proofs.recorded.wide_memory.Goals as goal
+use Rattle.chi_reading.proofs.memory.wide_memory.Goals as goal
 
 pub returns-clause-ok : goal.returns-clause-ok
 returns-clause-ok c =

@@ -5,8 +5,8 @@ use Rattle.chi_json.proofs.WalkLemmas.{at_ok, no_fault}
 use Rattle.chi_trace.specs.Words.{find_word}
 use Rattle.chi_reading.specs.TraceText.{region_final_words}
 use Rattle.chi_reading.proofs.RegionText.{region_text}
-use Rattle.chi_reading.proofs.recorded.region_memory.Goals as goal
-use Rattle.chi_reading.proofs.recorded.region_memory.Goals.{After-drop-image-2, in-Some+in_ok-final_words-in-Some, in-None}
+use Rattle.chi_reading.proofs.memory.region_memory.Goals as goal
+use Rattle.chi_reading.proofs.memory.region_memory.Goals.{After-drop-image-2, in-Some+in_ok-final_words-in-Some, in-None}
 
 abbrev last_words : After-drop-image-2 → Option (List ℕ)
 last_words c = option_map (λ words. words.items) c.in_ok-final_words.final_words

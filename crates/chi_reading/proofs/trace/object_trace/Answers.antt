@@ -4,7 +4,7 @@ use Rattle.std.specs.Result.{result_map_both}
 use Rattle.serde_json.specs.View.{items_view, view}
 use Rattle.chi_json.proofs.WalkLemmas.{no_fault}
 use Rattle.chi_reading.proofs.ObjectText.{object_says}
-use Rattle.chi_reading.proofs.recorded.object_trace.Goals as goal
+use Rattle.chi_reading.proofs.trace.object_trace.Goals as goal
 
 pub returns-clause-ok : goal.returns-clause-ok
 returns-clause-ok c =
