@@ -1,5 +1,5 @@
 -- what is written of a trace that was read
-use Rattle.std.proofs.Common.{◌≡◌, ℕ, ◌≤◌, List, length, Option, None, Some, Ok, Err, IfSome, subst}
+use Rattle.std.proofs.Common.{◌≡◌, ℕ, ◌≤◌, List, length, Option, None, Some, Ok, Err, IfSome, IsTrue, is_some, subst}
 use Rattle.std.specs.Io.KnownBytes.{Appends}
 use Rattle.chi_script.specs.WriterBytes.{AppendsFront}
 use Rattle.chi_script.specs.declared.device.WriteFault.{WriteFault}
@@ -12,7 +12,7 @@ use Rattle.chi_check.specs.CheckStatus.{answer_status}
 use Rattle.chi_check.specs.Limits.{IsWithin}
 use Rattle.chi_check.specs.Pages.{IsPage, IsPut, IsReported}
 use Rattle.chi_check.specs.Written.{IsLines, IsWrittenAs}
-use Rattle.chi_check.specs.declared.fault.CheckFault.TheVariants.{Input, Write}
+use Rattle.chi_check.specs.declared.fault.CheckFault.TheVariants.{Input, Page, Write}
 use Rattle.chi_check.specs.declared.fault.SourceFault.{SourceFault}
 use Rattle.chi_check.specs.declared.fault.SourceFault.TheVariants as source_fault
 use Rattle.chi_check.specs.declared.options.AnswerFormat.{AnswerFormat}
@@ -39,6 +39,14 @@ pub cut : (IsCut : Option ℕ → Type 0) (options : CheckOptions) (remaining ol
 cut IsCut options None old new input r status text page fault same within read a front = tt
 cut IsCut options (Some bytes) old new input r status text page fault same within read a front =
     subst (λ (l : List ℕ). Outcome IsCut options l old new (Err (Write fault))) same (a.0, text, answers IsCut options input r status text page within read a, front)
+
+-- the page that is asked for was not put
+pub unput : (IsCut : Option ℕ → Type 0) (options : CheckOptions) (remaining old new : Option (List ℕ)) (input : List ℕ) (r : RecordedValue) (status : ℕ) (text page : List ℕ)
+    → IfSome remaining (λ bytes. input ≡ bytes) → length input ≤ most_bytes → HasTrace options.lines input r → IsReported IsCut options (judged options r) status text page → IsTrue (is_some options.html)
+    → IfSome remaining (λ bytes. Outcome IsCut options bytes old new (Err Page))
+unput IsCut options None old new input r status text page same within read a asked = tt
+unput IsCut options (Some bytes) old new input r status text page same within read a asked =
+    subst (λ (l : List ℕ). Outcome IsCut options l old new (Err Page)) same (a.0, text, answers IsCut options input r status text page within read a, asked)
 
 -- the input has no trace
 pub no_trace : (IsCut : Option ℕ → Type 0) (options : CheckOptions) (remaining old new : Option (List ℕ)) (input : List ℕ) (fault : SourceFault) → IfSome remaining (λ bytes. input ≡ bytes) → HasNoTrace options.lines input fault

@@ -1,5 +1,5 @@
 -- what a check does: the answer of the trace that its input is
-use Rattle.std.specs.Prelude.{◌≡◌, ◌≢◌, ℕ, ◌/◌, ◌<◌, ◌≤◌, ◌==◌, ◌||◌, Bool, if◌then◌else◌, is_some, List, length, Option, None, Some, IfSome, IsSomeAnd, Result, Ok, Err}
+use Rattle.std.specs.Prelude.{◌≡◌, ◌≢◌, ℕ, ◌/◌, ◌<◌, ◌≤◌, ◌==◌, ◌||◌, Bool, if◌then◌else◌, is_some, List, length, Option, None, Some, IfSome, IsSomeAnd, IsTrue, Result, Ok, Err}
 use Rattle.std.specs.Io.KnownBytes.{Appends, Keeps}
 use Rattle.std.specs.List.{list_any}
 use Rattle.chi_trace.specs.Granules.{granule_of}
@@ -90,7 +90,7 @@ Outcome IsCut options input old new (Err (Input (source_fault.Trace fault))) = H
 Outcome IsCut options input old new (Err (Input (source_fault.Events fault))) = HasNoTrace options.lines input (source_fault.Events fault)
 Outcome IsCut options input old new (Err (File place fault)) = ⊥
 Outcome IsCut options input old new (Err (Untold addr)) = (recorded : RecordedValue) × HasTrace options.lines input recorded × (untold options.granule recorded ≡ Some addr)
-Outcome IsCut options input old new (Err Page) = Unit {0}
+Outcome IsCut options input old new (Err Page) = (answer : Answer) × (text : List ℕ) × Answers IsCut options input answer text × IsTrue (is_some options.html)
 Outcome IsCut options input old new (Err (Unfinished fault)) = ⊥
 Outcome IsCut options input old new (Err Unsaved) = ⊥
 Outcome IsCut options input old new (Err Unshown) = ⊥

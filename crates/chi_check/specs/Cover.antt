@@ -1,5 +1,5 @@
 -- what a count does: it writes what the operations covered that its inputs tell, and how many requests were refused
-use Rattle.std.specs.Prelude.{◌≡◌, ◌≢◌, ℕ, ◌<◌, ◌≤◌, List, [], ◌∷◌, ◌++◌, Contains, length, map, min, slice_get, sum_by, Option, None, Some, IfSome, IsSomeAnd, Result, Ok, Err}
+use Rattle.std.specs.Prelude.{◌≡◌, ◌≢◌, ℕ, ◌<◌, ◌≤◌, List, [], ◌∷◌, ◌++◌, Contains, length, map, min, slice_get, sum_by, is_some, Option, None, Some, IfSome, IsSomeAnd, IsTrue, Result, Ok, Err}
 use Rattle.std.specs.Io.KnownBytes.{Appends}
 use Rattle.chi_script.specs.WriterBytes.{AppendsFront}
 use Rattle.chi_fields.specs.declared.refusal.Refusal.{Refusal}
@@ -164,7 +164,7 @@ AreInputsFault holds lines (path ∷ paths) input fault = AreFilesFault holds li
 abbrev pub CoverOutcome : (List ℕ → List ℕ → Type 0) → CoverOptions → List ℕ → Option (List ℕ) → Option (List ℕ) → Result ℕ CheckFault → Type 0
 CoverOutcome holds options input old new (Ok status) =
     (counted : Counted) × HasCounts holds options input counted × IsCoverStatus options.require (percent_of (count_in counted.covered)) status × Appends old new (written_of options.format counted)
-CoverOutcome holds options input old new (Err Page) = Unit {0}
+CoverOutcome holds options input old new (Err Page) = (counted : Counted) × HasCounts holds options input counted × IsTrue (is_some options.html)
 CoverOutcome holds options input old new (Err (Write fault)) = (counted : Counted) × HasCounts holds options input counted × AppendsFront old new (written_of options.format counted)
 CoverOutcome holds options input old new (Err fault) = AreInputsFault holds options.lines (paths_of options) input fault
 

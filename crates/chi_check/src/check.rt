@@ -1,6 +1,6 @@
 //! From a trace's bytes to an answer's bytes.
 
-ghost use Rattle.std.specs.Prelude.{◌≡◌, ◌≤◌, length, IfErr, IfOk, IfSome, IsTrue};
+ghost use Rattle.std.specs.Prelude.{◌≡◌, ◌≤◌, false, is_some, length, IfErr, IfOk, IfSome, IsTrue};
 ghost use Rattle.chi_answer.specs.Answers.{IfUndecided, IsAnswer};
 ghost use Rattle.chi_check.specs.Check.{IsReadFault, KeepsUnanswered, LookedForStatus, Outcome, asked, happened, judged, most_bytes};
 ghost use Rattle.chi_check.specs.Limits.{IsWithin};
@@ -156,7 +156,8 @@ pub(crate) fn reported<P: WatchProgress, M: Meter>(
 
 /// Puts a page where one is asked for, and answers whether it could.
 pub(crate) fn put_page<G: Pages>(pages: &mut G, path: Option<&str>, page: &[u8]) -> bool
-    ensures { IsTrue result → IfSome path.entry (λ p. G.has_put pages.new p.now page.now) }
+    ensures put { IsTrue result → IfSome path.entry (λ p. G.has_put pages.new p.now page.now) }
+    ensures asked { result ≡ false → IsTrue (is_some path.entry) }
 {
     match path {
         Some(path) => pages.put(path, page),
