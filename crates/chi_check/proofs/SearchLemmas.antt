@@ -1,6 +1,6 @@
 -- the states that are looked at within the limits
-use Rattle.std.proofs.Common.{◌≡◌, ℕ, ◌+◌, ◌≤◌, Option, refl, arith}
-use Rattle.chi_search.specs.Looks.{FoundBy, FoundThenLooked, Grew, GrewBy, IsCutShort, Search, after_verdict}
+use Rattle.std.proofs.Common.{ℕ, ◌+◌, Option, arith}
+use Rattle.chi_search.specs.Looks.{FoundBy, FoundThenLooked, Grew, IsCutShort, Search}
 use Rattle.chi_search.proofs.Growing.{at_least_after, grew_found}
 use Rattle.chi_answer.specs.declared.answer.Answer.{Answer}
 use Rattle.chi_answer.specs.Answers.{LookedForAnswer}

@@ -30,12 +30,16 @@ errors_rule = text_rule (codes "errors") (codes "unknown" ∷ [])
 abbrev pub format_rule : Rule
 format_rule = text_rule (codes "format") (codes "text" ∷ [])
 
+-- the granule is any text
+abbrev pub granule_rule : Rule
+granule_rule = text_rule (codes "granule") []
+
 -- The task `explain`: its input may tell events, or flits with points or without and what errors say of them. A witness may be asked
--- for, and a form of the answer. Its granule, its limits, its time and how many operations are shown are whole numbers below 2^64. It has
+-- for, a form of the answer, and a granule. Its limits, its time and how many operations are shown are whole numbers below 2^64. It has
 -- the file of a page, a budget and a file that is read.
 abbrev pub explain_app : App
 explain_app =
-    with_rule (with_rule (with_rule (with_rule (with_rule (with_rule (with_rule (with_rule (with_rule (with_rule (with_rule (with_rule (with_rule (with_rule (new_app (codes "explain")) (switch_rule (codes "events"))) (switch_rule (codes "flits"))) (switch_rule (codes "points"))) errors_rule) (switch_rule (codes "witness"))) format_rule) (number_rule (codes "granule")))
+    with_rule (with_rule (with_rule (with_rule (with_rule (with_rule (with_rule (with_rule (with_rule (with_rule (with_rule (with_rule (with_rule (with_rule (new_app (codes "explain")) (switch_rule (codes "events"))) (switch_rule (codes "flits"))) (switch_rule (codes "points"))) errors_rule) (switch_rule (codes "witness"))) format_rule) granule_rule)
     (number_rule (codes "until"))) around_rule) html_rule) budget_rule) (number_rule (codes "seconds"))) (number_rule (codes "memory"))) file_rule
 
 -- how many operations have to have ended is a whole number below 2^64, and 0 by default

@@ -1,7 +1,10 @@
 -- which task the arguments name, and with which options
-use Rattle.std.specs.Prelude.{◌≡◌, ◌⊎◌, Bool, true, false, not, ◌&&◌, ◌||◌, if◌then◌else◌, [], List, unwrap_or, Option, None, Some, codes}
+use Rattle.std.specs.Prelude.{◌≡◌, ◌⊎◌, ℕ, nat_eq, drop, Result, Bool, true, false, not, ◌&&◌, ◌||◌, if◌then◌else◌, [], List, unwrap_or, Option, None, Some, codes}
+use Rattle.std.specs.List.{starts_with}
 use Rattle.std.specs.Option.{option_map, option_map_or}
+use Rattle.std.specs.Result.{result_ok}
 use Rattle.std.specs.Str.{bytes_eq}
+use Rattle.std.specs.Str.Parse.{ParsesUnsigned}
 use Rattle.std.specs.Borrow.{Bor}
 use Rattle.clap.specs.Walk.{Row, Text, all_of, first_of, one_of}
 use Rattle.clap.specs.Simple.{subcommand_of}
@@ -42,16 +45,43 @@ has_other_effect found = not (has_word found (codes "errors") (codes "none")) &&
 abbrev pub has_other_format : List Row → Bool
 has_other_format found = option_map_or (λ word. not (bytes_eq word (codes "text")) && not (bytes_eq word (codes "json"))) (first_of (codes "format") found) false
 
+-- the address that a text is: in hexadecimal digits after `0x`, and else in decimal ones; none where it is no number below 2^64
+abbrev pub radix_of : Text → ℕ
+radix_of text = if starts_with nat_eq text (codes "0x") then 16 else 10
+
+abbrev pub digits_of : Text → Text
+digits_of text = if starts_with nat_eq text (codes "0x") then drop 2 text else text
+
+abbrev pub IsAddress : Text → Option ℕ → Type 0
+IsAddress text address = (read : Result ℕ (Unit {0})) × ParsesUnsigned 64 (radix_of text) (digits_of text) read × (address ≡ result_ok read)
+
+-- the address of the granule that is asked for, where one is
+abbrev pub IsAddressOrNone : Option Text → Option ℕ → Type 0
+IsAddressOrNone None address = address ≡ None
+IsAddressOrNone (Some text) address = IsAddress text address
+
+-- the granule that is asked for is no address
+abbrev pub HasNoAddress : List Row → Type 0
+HasNoAddress found = (text : Text) × (first_of (codes "granule") found ≡ Some text) × IsAddress text None
+
+-- the options are none of those that `clap` takes and the program refuses
+pub record ArePassed (found : List Row) : Type 0 where
+  pub flits : lacks_flits found ≡ false
+  pub effect : has_other_effect found ≡ false
+  pub format : has_other_format found ≡ false
+  pub granule : HasNoAddress found → ⊥
+
 -- in these arguments `clap` finds options for which this holds
 abbrev pub FindsWhere : List Text → (List Row → Bool) → Type 0
 FindsWhere arguments holds = (name : Text) × (found : List Row) × Finds arguments name found × (holds found ≡ true)
 
 -- why the arguments name no task: there is no memory; `clap` finds this fault in them, or is asked for help; they ask for what is of
--- flits alone, and for no flits; or what errors say, or the form of an answer, is another word
+-- flits alone, and for no flits; or what errors say, or the form of an answer, is another word, or the granule is no address
 abbrev pub IsArgumentsFault : List Text → ErrorKind → Type 0
 IsArgumentsFault arguments kind =
     ((kind ≡ error_kind.OutOfMemory) ⊎ IsAmong kind (fault_of program_app arguments))
-    ⊎ (((kind ≡ error_kind.MissingRequiredArgument) × FindsWhere arguments lacks_flits) ⊎ (((kind ≡ error_kind.InvalidValue) × FindsWhere arguments has_other_effect) ⊎ ((kind ≡ error_kind.InvalidValue) × FindsWhere arguments has_other_format)))
+    ⊎ (((kind ≡ error_kind.MissingRequiredArgument) × FindsWhere arguments lacks_flits) ⊎ (((kind ≡ error_kind.InvalidValue) × FindsWhere arguments has_other_effect) ⊎ (((kind ≡ error_kind.InvalidValue) × FindsWhere arguments has_other_format)
+    ⊎ ((kind ≡ error_kind.InvalidValue) × (name : Text) × (found : List Row) × Finds arguments name found × HasNoAddress found))))
 
 -- the name `watch` is that of the watch, `cover` that of the count, and any other that of the explaining
 abbrev pub IsNamed : Text → Task → Type 0
@@ -90,7 +120,7 @@ pub record HasExplainOptions (found : List Row) (options : CheckOptions) : Type 
   pub budget : IsNumberOr 1000000 (one_of (codes "budget") found) options.budget
   pub seconds : IsNumberOrNone (one_of (codes "seconds") found) options.seconds
   pub memory : IsNumberOrNone (one_of (codes "memory") found) options.memory
-  pub granule : IsNumberOrNone (one_of (codes "granule") found) options.granule
+  pub granule : IsAddressOrNone (first_of (codes "granule") found) options.granule
   pub until : IsNumberOrNone (one_of (codes "until") found) options.until
   pub around : IsNumberOr 16 (one_of (codes "around") found) options.around
   pub html : option_map (λ s. s.now) options.html ≡ first_of (codes "html") found
@@ -129,9 +159,9 @@ HasOptions found (Explain options file) = HasExplainOptions found options × IsF
 HasOptions found (Watch options file) = HasWatchOptions found options × IsFile found file
 HasOptions found (Cover options) = HasCoverOptions found options
 
--- the arguments name this task with these options: those of what `clap` finds in them
+-- the arguments name this task with these options: those of what `clap` finds in them, none of which is refused
 abbrev pub Chooses : List Text → Task → Type 0
-Chooses arguments task = (name : Text) × (found : List Row) × Finds arguments name found × IsNamed name task × HasOptions found task
+Chooses arguments task = (name : Text) × (found : List Row) × Finds arguments name found × ArePassed found × IsNamed name task × HasOptions found task
 
 -- the task is `explain`, whatever its options
 abbrev pub IsExplain : Task → Type 0

@@ -9,8 +9,8 @@ ghost use Rattle.chi_check.specs.OptionValues.{Chooses, HasOptions, IsArgumentsF
 ghost use Rattle.chi_check.specs.CommandLine.{IsTaken, program_app};
 
 use crate::option_values::{
-    cover_options, explain_options, file_given, has_other_effect, has_other_format, lacks_flits,
-    watch_options,
+    cover_options, explain_options, file_given, has_no_address, has_other_effect, has_other_format,
+    lacks_flits, watch_options,
 };
 use crate::options::{CheckOptions, CoverOptions, WatchingOptions};
 use crate::tasks::TASKS;
@@ -41,6 +41,9 @@ const NEED_FLITS: &str = "the options '--points' and '--errors' need '--flits'";
 const EFFECTS: &str = "the option '--errors' takes 'none' or 'unknown'";
 
 const FORMATS: &str = "the option '--format' takes 'text' or 'json'";
+
+const ADDRESSES: &str =
+    "the option '--granule' takes an address, in decimal or after '0x' in hexadecimal digits";
 
 const MORE: &str =
     "A trace in FILE or on standard input is a script of chihome whose requests have the members
@@ -104,8 +107,8 @@ fn refused(alloc: Global, kind: ErrorKind, text: &str) -> Result<Error, Error>
 /// Reads the arguments after the program's name: `explain`, `watch` or `cover`, and its options.
 ///
 /// Which arguments are refused, and as what, and which task and options the others name, `clap`'s definitions say of the
-/// program's command line; but `--points` and `--errors none` need `--flits`, and `--errors` and `--format` take one of two words
-/// each. That `clap` refuses a budget or a time that is no number no contract says; `.ci/checker` shows it.
+/// program's command line; but `--points` and `--errors none` need `--flits`, `--errors` and `--format` take one of two words each,
+/// and `--granule` takes an address. That `clap` refuses a budget or a time that is no number no contract says; `.ci/checker` shows it.
 ///
 /// ```
 /// let task = task_of(alloc, &arguments)?; // explain --witness --budget 1000 --until 4711
@@ -128,6 +131,9 @@ pub fn task_of(alloc: Global, arguments: &[String]) -> Result<Task<'_>, Error>
     }
     if has_other_format(matches) {
         return Err(refused(alloc, ErrorKind::InvalidValue, FORMATS)?);
+    }
+    if has_no_address(matches) {
+        return Err(refused(alloc, ErrorKind::InvalidValue, ADDRESSES)?);
     }
     Ok(chosen_task(alloc, name, matches)?)
 }

@@ -1,10 +1,10 @@
 //! The options that a task was given.
 
-ghost use Rattle.std.specs.Prelude.{◌≡◌, [], codes, map, unwrap_or, IfOk};
+ghost use Rattle.std.specs.Prelude.{◌≡◌, [], false, codes, map, unwrap_or, IfOk, IsTrue};
 ghost use Rattle.std.specs.Option.{option_map};
 ghost use Rattle.clap.specs.Matches.{found_of};
 ghost use Rattle.clap.specs.Walk.{all_of, first_of, one_of, rows_of};
-ghost use Rattle.chi_check.specs.OptionValues.{HasCoverOptions, HasRequired, HasWatchOptions, answer_format, errors_asked, flits_asked, format_asked, has_other_effect, has_other_format, lacks_flits, lines_asked};
+ghost use Rattle.chi_check.specs.OptionValues.{HasCoverOptions, HasNoAddress, HasRequired, HasWatchOptions, IsAddress, IsAddressOrNone, answer_format, errors_asked, flits_asked, format_asked, has_other_effect, has_other_format, lacks_flits, lines_asked};
 ghost use Rattle.chi_program.specs.OptionValues.{IsNumberOr, IsNumberOrNone, has_word};
 
 use crate::options::{AnswerFormat, CheckOptions, CoverOptions, WatchingOptions};
@@ -122,6 +122,34 @@ fn answer_format(matches: &ArgMatches<'_>) -> AnswerFormat
     }
 }
 
+// The address that a text is, where it is one.
+fn address(text: &str) -> Option<u64>
+    ensures { IsAddress text.now result }
+{
+    match text.strip_prefix("0x") {
+        Some(digits) => u64::from_str_radix(digits, 16).ok(),
+        None => u64::from_str_radix(text, 10).ok(),
+    }
+}
+
+// The address of the granule that is asked for, where one is.
+fn granule_asked(matches: &ArgMatches<'_>) -> Option<u64>
+    ensures { IsAddressOrNone (first_of (codes "granule") (rows_of (found_of matches.now))) result }
+{
+    address(text_given(matches, "granule")?)
+}
+
+/// Whether the granule that is asked for is no address.
+pub(crate) fn has_no_address(matches: &ArgMatches<'_>) -> bool
+    ensures refused { IsTrue result → HasNoAddress (rows_of (found_of matches.now)) }
+    ensures passed { result ≡ false → HasNoAddress (rows_of (found_of matches.now)) → ⊥ }
+{
+    match text_given(matches, "granule") {
+        Some(text) => address(text).is_none(),
+        None => false,
+    }
+}
+
 /// The options that `explain` was given, or that stand in for them.
 pub(crate) fn explain_options<'a>(matches: &ArgMatches<'a>) -> CheckOptions<'a>
     ensures lines { result.lines ≡ lines_asked (rows_of (found_of matches.now)) }
@@ -130,7 +158,7 @@ pub(crate) fn explain_options<'a>(matches: &ArgMatches<'a>) -> CheckOptions<'a>
     ensures budget { IsNumberOr 1000000 (one_of (codes "budget") (rows_of (found_of matches.now))) result.budget }
     ensures seconds { IsNumberOrNone (one_of (codes "seconds") (rows_of (found_of matches.now))) result.seconds }
     ensures memory { IsNumberOrNone (one_of (codes "memory") (rows_of (found_of matches.now))) result.memory }
-    ensures granule { IsNumberOrNone (one_of (codes "granule") (rows_of (found_of matches.now))) result.granule }
+    ensures granule { IsAddressOrNone (first_of (codes "granule") (rows_of (found_of matches.now))) result.granule }
     ensures until { IsNumberOrNone (one_of (codes "until") (rows_of (found_of matches.now))) result.until }
     ensures around { IsNumberOr 16 (one_of (codes "around") (rows_of (found_of matches.now))) result.around }
     ensures html { option_map (λ s. s.now) result.html ≡ first_of (codes "html") (rows_of (found_of matches.now)) }
@@ -142,7 +170,7 @@ pub(crate) fn explain_options<'a>(matches: &ArgMatches<'a>) -> CheckOptions<'a>
         budget: number_or(matches, "budget", BUDGET),
         seconds: number_given(matches, "seconds"),
         memory: number_given(matches, "memory"),
-        granule: number_given(matches, "granule"),
+        granule: granule_asked(matches),
         until: number_given(matches, "until"),
         around: number_or(matches, "around", AROUND),
         html: html_file(matches),

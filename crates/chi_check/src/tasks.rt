@@ -59,7 +59,7 @@ const EXPLAIN: [NamedOption<'static>; 14] = [
     },
     NamedOption {
         name: "granule",
-        takes: Takes::Number("ADDR"),
+        takes: Takes::Text("ADDR"),
         help: "Judges the granule at this address, and no other",
     },
     NamedOption {

@@ -1,6 +1,6 @@
 -- the granules that were found are written, the lines of the first and its page are put, and then what is said once all is watched is
 -- written
-use Rattle.std.proofs.Common.{ℕ, ◌≤◌, Result, Err, IfSome, IsSomeAnd, ap, subst, sym}
+use Rattle.std.proofs.Common.{ℕ, Result, Err, IfSome, IsSomeAnd, ap, subst, sym}
 use Rattle.std.proofs.lemmas.Result.{IfOk-weaker}
 use Rattle.chi_watch_text.specs.declared.line_format.LineFormat.{LineFormat}
 use Rattle.chi_watch_text.specs.declared.options.WatchOptions.{WatchOptions}
