@@ -45,13 +45,14 @@ has_other_effect found = not (has_word found (codes "errors") (codes "none")) &&
 abbrev pub has_other_format : List Row → Bool
 has_other_format found = option_map_or (λ word. not (bytes_eq word (codes "text")) && not (bytes_eq word (codes "json"))) (first_of (codes "format") found) false
 
--- the address that a text is: in hexadecimal digits after `0x`, and else in decimal ones; none where it is no number below 2^64
+-- an address is written in hexadecimal digits after `0x`, and else in decimal ones
 abbrev pub radix_of : Text → ℕ
 radix_of text = if starts_with nat_eq text (codes "0x") then 16 else 10
 
 abbrev pub digits_of : Text → Text
 digits_of text = if starts_with nat_eq text (codes "0x") then drop 2 text else text
 
+-- the address that a text is, where it is a number below 2^64
 abbrev pub IsAddress : Text → Option ℕ → Type 0
 IsAddress text address = (read : Result ℕ (Unit {0})) × ParsesUnsigned 64 (radix_of text) (digits_of text) read × (address ≡ result_ok read)
 

@@ -1,4 +1,4 @@
-//! The next value of a text, where it is neither a list nor a number that is not whole, and objects that are read with no allocation.
+//! The next value of a text, objects that are read with no allocation, and a text that is one of them.
 
 ghost use Rattle.std.specs.Prelude.{◌≡◌, ◌==◌, ◌<◌, ◌∷◌, ℕ, List, IfSome, IsTrue, Some, false, length, slice_index};
 ghost use Rattle.json.specs.Json.{items, members, value};

@@ -147,7 +147,7 @@ pub(crate) fn stated_at(place: usize, value: &Value) -> Result<Stated, RequestFa
     }
 }
 
-/// The same of an object that is no `Value`, where it has no fault.
+/// The same of an object that was read with no allocation, where it has no fault.
 #[tactic(auto, unfolding(crate::specs::Requests::stated_at))]
 pub(crate) fn flat_stated(place: usize, object: &FlatObject<'_>) -> Option<Stated>
     ensures { IfSome result (λ s. stated_at place (flat_data object.now) ≡ Ok s) }
