@@ -1,4 +1,4 @@
-//! Tests of tables of coverage, and of scripts by chance.
+//! Tests of tables of coverage.
 #![tactic(auto)]
 
 #[cfg(test)]

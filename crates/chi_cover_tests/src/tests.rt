@@ -7,6 +7,5 @@ mod operation_tests;
 mod operations;
 mod page_tests;
 mod reason_tests;
-mod stimulus_tests;
 mod table_tests;
 mod traffic_tests;

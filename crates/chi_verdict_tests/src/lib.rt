@@ -1,4 +1,4 @@
-//! Tests of the search of one granule, and of whole traces.
+//! Tests of whole traces.
 #![tactic(auto)]
 
 #[cfg(test)]

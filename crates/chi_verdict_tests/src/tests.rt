@@ -9,7 +9,6 @@ mod first_tests;
 mod order_tests;
 mod progress_tests;
 mod random_tests;
-mod search_tests;
 mod to_the_end_tests;
 mod trace_tests;
 mod traces;

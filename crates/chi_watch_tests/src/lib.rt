@@ -1,4 +1,4 @@
-//! Tests of events, and of how granules are watched while they come.
+//! Tests of how granules are watched while events come.
 #![tactic(auto)]
 
 #[cfg(test)]

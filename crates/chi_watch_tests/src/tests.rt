@@ -4,7 +4,6 @@ mod comparison;
 mod counts_tests;
 mod dropped_tests;
 mod ending_tests;
-mod event_tests;
 mod fault_tests;
 mod home;
 mod hot_tests;

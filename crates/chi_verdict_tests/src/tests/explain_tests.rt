@@ -1,10 +1,9 @@
 //! Tests of whole traces with answers that were worked by hand.
 
 use crate::tests::comparison::assert_same;
-use crate::tests::search_tests::found::{NOTHING, Numbers, assert_numbers, numbers_of};
 use crate::tests::traces::{BUDGET, HIGH, LOW, LOWER, Timed, UPPER, WRITE, trace};
 use crate::tests::verdicts::{Case, Told, assert_verdict, assert_verdicts, verdict};
-use chi_search::NoProgress;
+use chi_search::{Found, NoProgress};
 use chi_trace::{GranuleWords, Trace};
 use chi_verdict::{Grouped, Verdict};
 use std::alloc::Global;
@@ -136,15 +135,16 @@ fn undecided_where_the_budget_was_spent(rt: HostRuntime) -> Result<(), Fail> {
     Ok(())
 }
 
-// The numbers that stand for the order of one granule of a trace.
-fn order_of_one(alloc: Global, trace: &Trace, granule: u64) -> Result<Vec<usize>, Fail> {
+// The order of one granule of a trace, or nothing.
+fn order_of_one(alloc: Global, trace: &Trace, granule: u64) -> Result<Option<Vec<usize>>, Fail> {
     let grouped = Grouped::of(alloc, trace)?;
     let none = GranuleWords::none(alloc);
     let mut budget = BUDGET;
-    numbers_of(
-        alloc,
-        grouped.explain(alloc, &none, granule, &mut budget, &mut NoProgress)?,
-    )
+    match grouped.explain(alloc, &none, granule, &mut budget, &mut NoProgress)? {
+        Found::Order(order) => Ok(Some(order)),
+        Found::Nothing => Ok(None),
+        Found::Undecided => Err(Fail::new("the budget was spent")),
+    }
 }
 
 #[test]
@@ -155,13 +155,15 @@ fn granules_one_after_the_other(rt: HostRuntime) -> Result<(), Fail> {
         Timed::Read((11, 20), HIGH, 5),
     ];
     let trace = trace(rt.alloc(), &[], &ops)?;
+    let none: &[usize] = &[];
+    let both: &[usize] = &[0, 2];
     for (case, granule, wanted) in &[
-        ("UPPER", UPPER, Numbers::These(&[0, 2])),
-        ("LOWER", LOWER, NOTHING),
-        ("LOWER + 1", LOWER + 1, Numbers::These(&[])),
+        ("UPPER", UPPER, Some(both)),
+        ("LOWER", LOWER, None),
+        ("LOWER + 1", LOWER + 1, Some(none)),
     ] {
         let found = order_of_one(rt.alloc(), &trace, *granule)?;
-        assert_numbers(&rt, case, &found, *wanted);
+        assert_same(&rt, (*case, found.as_deref()), (*case, *wanted));
     }
     Ok(())
 }

@@ -1,8 +1,9 @@
-//! Tests of the search of one granule.
+//! The tests, and what they share.
 
 mod commuting_tests;
+mod comparison;
 mod equal_tests;
-pub(crate) mod found;
+mod found;
 mod frontier_order_tests;
 mod frontier_steps;
 mod frontier_tests;

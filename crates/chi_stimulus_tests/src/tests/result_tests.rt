@@ -1,10 +1,8 @@
 //! Tests of what AtomicLoad leaves: the number that was found, one of the other sign, and a sum beyond its bytes.
 
 use crate::tests::comparison::assert_same;
-use crate::tests::stimulus_tests::counts::Counts;
-use crate::tests::stimulus_tests::executed::{
-    Executed, bits, number, operations_of, power, script_of, stimulus,
-};
+use crate::tests::counts::Counts;
+use crate::tests::executed::{Executed, bits, number, operations_of, power, script_of, stimulus};
 use chi_fields::{Kind, Op};
 use std::test::Fail;
 

@@ -1,8 +1,8 @@
 //! Tests that each operation comes.
 
 use crate::tests::comparison::assert_same;
-use crate::tests::stimulus_tests::counts::Counts;
-use crate::tests::stimulus_tests::executed::{number, operations_of, power, script_of, stimulus};
+use crate::tests::counts::Counts;
+use crate::tests::executed::{number, operations_of, power, script_of, stimulus};
 use chi_fields::Kind;
 use chi_stimulus::{Mix, Stimulus};
 use std::test::Fail;

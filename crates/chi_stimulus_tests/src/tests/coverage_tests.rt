@@ -1,13 +1,12 @@
 //! What scripts by chance cover, as they are and with a fault planted in what makes them.
 
 use crate::tests::comparison::assert_same;
-use crate::tests::operations::covered_by;
-use crate::tests::stimulus_tests::executed::{script_of, stimulus};
+use crate::tests::executed::{script_of, stimulus};
 use chi_cover::{Bin, Covered};
 use chi_fields::{Access, Kind, Op, Request, decode};
 use chi_lanes::apply;
 use chi_script::Script;
-use chi_trace::Operation;
+use chi_trace::{GranuleWords, Operation, Trace};
 use std::alloc::Global;
 use std::test::Fail;
 
@@ -72,7 +71,12 @@ fn covered(alloc: Global, script: &Script, plant: Plant) -> Result<Covered, Fail
             reply: Some(reply),
         })?;
     }
-    covered_by(alloc, &ops)
+    let Some(trace) = Trace::new(GranuleWords::none(alloc), ops) else {
+        return Err(Fail::new("these operations are no trace"));
+    };
+    let mut covered = Covered::new(alloc)?;
+    covered.add(alloc, trace.operations())?;
+    Ok(covered)
 }
 
 #[test]

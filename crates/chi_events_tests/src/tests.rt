@@ -1,5 +1,6 @@
-//! Tests of events: which operations end by them, and which requests are outstanding.
+//! The tests, and what they share.
 
+mod comparison;
 mod completion_tests;
 mod fault_tests;
 mod home;

@@ -1,7 +1,7 @@
 //! Tests of scripts by chance as texts.
 
 use crate::tests::comparison::assert_same;
-use crate::tests::stimulus_tests::executed::{script_of, stimulus};
+use crate::tests::executed::{script_of, stimulus};
 use chi_fields::Region;
 use chi_stimulus::{Stimulus, generated_script};
 use std::test::Fail;

@@ -1,5 +1,6 @@
-//! Tests of scripts by chance: what comes in them, what is refused, that a seed makes one script, and what they cover.
+//! The tests, and what they share.
 
+mod comparison;
 mod counts;
 mod coverage_tests;
 mod executed;

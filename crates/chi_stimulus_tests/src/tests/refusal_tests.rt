@@ -1,8 +1,8 @@
 //! Tests of the requests that are to be refused.
 
 use crate::tests::comparison::assert_same;
-use crate::tests::stimulus_tests::counts::Counts;
-use crate::tests::stimulus_tests::executed::{script_of, stimulus};
+use crate::tests::counts::Counts;
+use crate::tests::executed::{script_of, stimulus};
 use chi_fields::{Refusal, decode};
 use chi_stimulus::Stimulus;
 use std::alloc::Global;
