@@ -108,7 +108,7 @@ fn refused(alloc: Global, kind: ErrorKind, text: &str) -> Result<Error, Error>
 ///
 /// Which arguments are refused, and as what, and which task and options the others name, `clap`'s definitions say of the
 /// program's command line; but `--points` and `--errors none` need `--flits`, `--errors` and `--format` take one of two words each,
-/// and `--granule` takes an address. That `clap` refuses a budget or a time that is no number no contract says; `.ci/checker` shows it.
+/// and `--granule` takes an address. That `clap` refuses a budget or a time that is no number no contract says; `tests/cases/command_lines` shows it.
 ///
 /// ```
 /// let task = task_of(alloc, &arguments)?; // explain --witness --budget 1000 --until 4711

@@ -1,0 +1,161 @@
+#!/usr/bin/env python3
+"""What chicheck cover counts, as a process: the table of a trace, of several files and of events, as text and as JSON, and its page."""
+
+import json
+import os
+import sys
+import tempfile
+
+os.chdir(f"{os.path.dirname(os.path.abspath(__file__))}/..")
+sys.dont_write_bytecode = True
+sys.path.append("page")
+
+import cover_sample
+from coverage import counted_as_json
+from process import CHECKER, HOME, build, data_of, end, run, told, trace, wants
+from samples import REASONS, adds, example, refused_request
+
+# Of two_adds, whose adds overlap at the upper granule and which has a read after them: lines of the table, in their order.
+COVERED = [
+    "operations: 2 of 1200",
+    "ReadNoSnp little 8: 0 1",
+    "AtomicLoad.ADD little 8: 0 2",
+    "compares: 0 of 16",
+    "writes: 0 of 11",
+    "results: 0 of 68",
+    "open at once: 2 of 5",
+    "open 1: 2",
+    "open 2: 1",
+    "overlaps: 1 of 36",
+    "AtomicLoad while AtomicLoad was open: 1",
+    "requesters: 1 of 2",
+    "of another requester: 1",
+    "covered: 6 of 1338 (0%)",
+    "missing: ReadNoSnp, little-endian, 1 byte, lane 0",
+]
+
+# The same by the names of the bins.
+COVERED_BINS = {
+    "ReadNoSnp, little-endian, 8 bytes, lane 8": 1,
+    "AtomicLoad.ADD, little-endian, 8 bytes, lane 8": 2,
+    "open 1": 2,
+    "open 2": 1,
+    "AtomicLoad while AtomicLoad was open": 1,
+    "an overlap with an earlier operation of another requester": 1,
+}
+
+TRACES = [it.removesuffix(".json") for it in os.listdir("examples/traces")]
+
+
+def counts():
+    """The table of what a trace covered, and whether that is as much as is required. Whether the trace is explained does not count."""
+    whole = example("two_adds")
+    status, table, errors = run(CHECKER, ["cover"], whole)
+    lines = table.decode().splitlines()
+    told(f"table: {status} {errors}", (status, errors) == (0, b"") and lines[0] == COVERED[0])
+    told(f"table: its lines {lines}", [it for it in lines if it in COVERED] == COVERED)
+    told("table: those that are missing", sum(it.startswith("missing: ") for it in lines[:-13]) == 1338 - 6)
+    told("table: no refusals", lines[-13:] == refusals_of([]))
+    for percent, status in [("0", 0), ("1", 1), ("100", 1), (str(2**64 - 1), 1)]:
+        wants(f"table: {percent} of a hundred", ["cover", "--require", percent], whole, status, table.decode())
+    requests = [refused_request("OutOfRegion"), *adds(2), *map(refused_request, REASONS)]
+    status, table, errors = run(CHECKER, ["cover"], trace(requests, 2))
+    lines = table.decode().splitlines()
+    told(f"table: refusals {status} {errors}", (status, errors) == (0, b"") and lines[-7:] == refusals_of(["OutOfRegion", *REASONS]))
+    told("table: refusals are no operations", lines[0] == "operations: 1 of 1200" and "AtomicLoad.ADD little 8: 0 2" in lines)
+    status, table, errors = run(CHECKER, ["cover"], example("lost_update"))
+    told(f"table: not explained {status} {errors}", (status, errors) == (0, b"") and table.startswith(b"operations: 2 of 1200\n"))
+    for words in ["cover", "cover --require 1"]:
+        wants(f"{words}: no trace", words.split(), "[]", 3, errors="chicheck: trace is not an object\n")
+
+
+def counts_as_json():
+    """What is counted as JSON says what its text does. Of two traces it is worked by hand, all of it."""
+    two, lost = "examples/traces/two_adds.json", "examples/traces/lost_update.json"
+    refusing = trace([refused_request("OutOfRegion"), *adds(2), *map(refused_request, REASONS)], 2)
+    for words, text in [
+        *((words, example(name)) for name in sorted(TRACES) for words in ["", "--require 0", "--require 100"]),
+        (f"{two} {lost} {two}", b""),
+        ("--events examples/events/two_adds.jsonl", b""),
+        ("--flits examples/flits/stale_read.jsonl", b""),
+        ("", refusing),
+        ("", run(HOME, ["run", "--trace"], run(HOME, ["generate", "--refused", "30"], b"")[1])[1]),
+    ]:
+        counted_as_json(f"counts: {words}", ["cover", *words.split()], text)
+    added = {"AtomicLoad.ADD, little-endian, 8 bytes, lane 8": 2, "open 1": 2}
+    for case, text, bins, reasons in [
+        ("two adds and a read", example("two_adds"), COVERED_BINS, []),
+        ("two adds and refusals", refusing, added, ["OutOfRegion", *REASONS]),
+    ]:
+        wanted = json.dumps(cover_sample.coverage(lambda name, bins=bins: bins.get(name, 0), reasons), separators=(",", ":"))
+        wants(f"counts as JSON: {case}", ["cover", "--format=json"], text, 0, f"{wanted}\n")
+    text = run(CHECKER, ["cover", "--format", "text"], refusing)
+    told("counts as text where that is asked for", text == run(CHECKER, ["cover"], refusing))
+    wants("counts as JSON: no trace", ["cover", "--format", "json"], "[]", 3, errors="chicheck: trace is not an object\n")
+    found = run(CHECKER, ["cover", "--format", "xml"], refusing)
+    told(f"another form of counts: {found}", found[:2] == (2, b"") and b"the option '--format' takes 'text' or 'json'" in found[2])
+
+
+def refusals_of(reasons):
+    """The lines of the table of requests that were refused for these reasons."""
+    lines = [f"refusals: {len(set(reasons))} of 6", *(f"{it}: {reasons.count(it)}" for it in REASONS)]
+    return [*lines, *(f"missing: {it}" for it in REASONS if it not in reasons)]
+
+
+def counted(what, words, text, wanted):
+    """The counts that are wanted stand in the table."""
+    status, table, errors = run(CHECKER, ["cover", *words], text)
+    lines = table.decode().splitlines()
+    told(f"{what}: {status} {errors} {lines[:8]}", (status, errors) == (0, b"") and all(it in lines for it in wanted))
+    return table
+
+
+def inputs(folder):
+    """Files are added up, and the standard input is not read then; events are those operations that they tell."""
+    two, lost = "examples/traces/two_adds.json", "examples/traces/lost_update.json"
+    alone = counted("a file", [two], b"no trace", COVERED)
+    told("a file: another table than its trace", alone == run(CHECKER, ["cover"], example("two_adds"))[1])
+    twice = ["ReadNoSnp little 8: 0 2", "AtomicLoad.ADD little 8: 0 4", "open 1: 4", "AtomicLoad while AtomicLoad was open: 2", COVERED[-2]]
+    counted("a file twice", [two, two], b"", twice)
+    both = ["ReadNoSnp little 8: 0 2", "AtomicLoad.ADD little 8: 0 4", "open 1: 5", "open 2: 1", "AtomicLoad while AtomicLoad was open: 1"]
+    counted("two files", [lost, two], b"", both)
+    counted("the same in the other order", [two, lost], b"", both)
+    refused = []
+    for reasons in [["Misaligned", "Misaligned", "BadByteEnable"], ["BadByteEnable"], []]:
+        refused.append(f"{folder}/refused{len(refused)}.json")
+        with open(refused[-1], "w", encoding="ascii") as file:
+            file.write(trace([*map(refused_request, reasons), *adds(1)], 2))
+    table = counted("refusals of files", refused, b"", ["AtomicLoad.ADD little 8: 0 3"])
+    of_files = refusals_of(["Misaligned", "Misaligned", "BadByteEnable", "BadByteEnable"])
+    told("refusals of files: added up", table.decode().splitlines()[-11:] == of_files)
+    for words, text in [(["--events"], None), (["--events", "examples/events/two_adds.jsonl"], b"")]:
+        with open("examples/events/two_adds.jsonl", "rb") as file:
+            table = counted(f"events: {words}", words, file.read() if text is None else text, COVERED)
+        told(f"events: {words}: another table than the trace", table == alone)
+    for words, text, status, fault in [
+        (["--events"], b"[]\n", 3, "line 1 is not an object"),
+        ([two, f"{folder}/none.json"], b"", 5, f"{folder}/none.json: input could not be read"),
+        ([two, "README.md"], b"", 3, "README.md: trace is not JSON"),
+        (["--events", "README.md"], b"", 3, "README.md: line 1 is not JSON"),
+    ]:
+        wants(f"inputs: {words}", ["cover", *words], text, status, errors=f"chicheck: {fault}\n")
+    path = f"{folder}/cover.html"
+    told("a page of counts: another table", run(CHECKER, ["cover", "--html", path], example("two_adds")) == (0, alone, b""))
+    with open(path, encoding="ascii") as file:
+        data = data_of(file.read(), "coverage")
+    told(f"a page of counts: its data {data}", data == cover_sample.coverage(lambda name: COVERED_BINS.get(name, 0)))
+    words = ["cover", "--format", "json", lost]
+    whole = run(CHECKER, words, b"")
+    told("a page beside JSON: another object", run(CHECKER, [*words, "--html", path], b"") == whole)
+    with open(path, encoding="ascii") as file:
+        told("a page beside JSON: other data", data_of(file.read(), "coverage") == json.loads(whole[1]))
+    found = run(CHECKER, ["cover", "--html", f"{folder}/none/cover.html"], example("two_adds"))
+    told(f"a page of counts that cannot be written: {found}", found == (5, b"", b"chicheck: page could not be written\n"))
+
+
+build("chihome", "chicheck")
+counts()
+counts_as_json()
+with tempfile.TemporaryDirectory() as folder:
+    inputs(folder)
+end(60)
