@@ -9,7 +9,7 @@ DIST := out/dist/chi-$(VERSION)
 SCRIPT ?= examples/fetch_add.json
 SECONDS ?= 10
 
-.PHONY: help try build checker example run soak test page-test edits clauses lib dv install dist bench bench-c bench-explain bench-growth corpus
+.PHONY: help try build checker example run soak test page-test edits clauses lib dv install dist bench bench-c bench-explain bench-growth corpus orders
 
 help:
 	@echo "Times are of a fresh clone on 4 cores; what was proved before is not proved again."
@@ -27,6 +27,8 @@ help:
 	@echo "  make clauses               out/CLAUSES.md: each public call with the clauses of its contract: some seconds"
 	@echo "  make soak [SECONDS=N]      four workers race at the lock-free store for N seconds (10), while chicheck watches; it wants make checker"
 	@echo "  make dv                    the benches in Verilator, and flits by hand where Icarus Verilog and GHDL are on the path: 12 minutes after make checker"
+	@echo "  make corpus [SEED=N]       chihome on 10,000 scripts by chance, half of them broken, beside plain Rust"
+	@echo "  make orders [SEED=N]       chicheck on 100,000 small traces and 40,000 histories, beside every order of each"
 	@echo
 	@echo "Develop it"
 	@echo "  make edits [CRATES=..]     all edits of some crates or of all, also those outside the gate: the prover must refuse each"
@@ -35,9 +37,8 @@ help:
 	@echo "Measure it, beside programs in plain Rust and C"
 	@echo "  make bench                 the speed of chihome and of the lock-free store"
 	@echo "  make bench-c               the speed of the calls for C, also by DPI"
-	@echo "  make bench-explain         the checker of traces beside every order of 100,000 small ones, and its speed"
+	@echo "  make bench-explain         the speed of the checker of traces"
 	@echo "  make bench-growth          how the time and the memory of chicheck grow with its input"
-	@echo "  make corpus [SEED=N]       chihome on 10,000 scripts by chance, half of them broken, and on 100 of chihome generate"
 
 # Where a command fails, what it said is shown; it leaves no file behind.
 quiet = log=$$(mktemp) && trap "rm -f $$log" EXIT && trap "exit 130" INT TERM && { $(1); } > $$log 2>&1 || { cat $$log; exit 1; }
@@ -119,29 +120,23 @@ dist: build checker example lib
 	tar -C out/dist -czf "$(DIST).tar.gz" "$(notdir $(DIST))"
 
 bench: build
-	bench/run.sh $(PROGRAM) run --store book
-	bench/run.sh $(PROGRAM) run --store lock
-	bench/run.sh $(PROGRAM) race --store book
-	bench/run.sh $(PROGRAM) race --store lock
-	GRANULES=512 bench/run.sh $(PROGRAM) run --store book
-	GRANULES=512 bench/run.sh $(PROGRAM) race --store book
-	for workers in 1 2 4 7; do for places in own one; do \
-	  WORKERS=$$workers PLACES=$$places bench/run.sh $(PROGRAM) race --store book || exit 1; \
-	done; done
-	bench/exchange.sh
+	bench/chihome.py
 
 bench-c: lib
 	bench/c/run.sh
 
 bench-explain: checker
-	bench/verdict.sh $(SEED)
+	bench/verdict.py $(SEED)
 	bench/chicheck.py $(SEED)
-	bench/watch.py 20000 $(or $(SEED),1)
-	bench/watch.py 20000 $(or $(SEED),1) prefixes
 
 bench-growth: checker
 	bench/growth.py
 
 corpus: build
-	bench/build.sh && cd bench && out/release/corpus ../$(PROGRAM) 10000 $(SEED)
-	bench/stimulus.sh $(PROGRAM)
+	bench/build.sh
+	tests/oracle/scripts.py 10000 $(SEED)
+
+orders: checker
+	tests/oracle/traces.py 100000 $(or $(SEED),1)
+	tests/oracle/watch.py 20000 $(or $(SEED),1)
+	tests/oracle/watch.py 20000 $(or $(SEED),1) prefixes

@@ -15,29 +15,21 @@ import sys
 import tempfile
 import time
 
+sys.dont_write_bytecode = True
+
+from traffic import ADD, READ, events, of_trace, packet, request
+
 TOP = f"{os.path.dirname(os.path.abspath(__file__))}/.."
 COUNTS = "--instructions" in sys.argv[1:]
 WORDS = [it for it in sys.argv[1:] if it != "--instructions"]
 CHECKER = os.path.abspath(WORDS[0]) if WORDS else f"{TOP}/crates/chi_check/out/chi_check"
 FIRST = int(WORDS[1]) if len(WORDS) > 1 else 250 if COUNTS else 10_000
-ADD, READ = 48, 4
-
-
-def packet(granule, word):
-    data = word.to_bytes(8, "little").hex()
-    return "0" * 16 + data if granule % 2 else data + "0" * 16
-
-
-def operation(op, granule, src, **more):
-    """A request of the eight bytes of a granule: a read, or an AtomicLoad ADD of 1."""
-    data = {} if op == READ else {"be": 0xFF00 if granule % 2 else 0xFF, "lanes": packet(granule, 1)}
-    return {"src": src, "txn": 0, "op": op, "size": 3, "addr": 8 * granule, "endian": 0} | data | more
 
 
 def addition(granule, found, start, **more):
-    """An AtomicLoad ADD as a trace has it, with the word that its reply says it found."""
-    reply = {} if found is None else {"reply": packet(granule, found)}
-    return operation(ADD, granule, start % 8, start=start) | reply | more
+    """An AtomicLoad ADD of 1 as a trace has it, with the word that its reply says it found."""
+    reply = {} if found is None else {"reply": packet(8 * granule, found)}
+    return request(ADD, 8 * granule, 1, start % 8) | {"start": start} | reply | more
 
 
 def trace(requests):
@@ -45,18 +37,18 @@ def trace(requests):
 
 
 def watched(number, time, granule, found):
-    """The events of an AtomicLoad ADD."""
-    request = {"time": time, "event": "request", "id": number} | operation(ADD, granule, number % 8)
-    return [request, {"time": time + 1, "event": "reply", "id": number, "reply": packet(granule, found)}]
+    """The events of an AtomicLoad ADD of 1."""
+    it = request(ADD, 8 * granule, 1, number % 8)
+    return [*events(time, number, it, None), *events(time + 1, number, it, packet(8 * granule, found))]
 
 
 def hung(number, granule):
     """The event of a read that never ends."""
-    return {"time": 0, "event": "request", "id": number} | operation(READ, granule, 9)
+    return events(0, number, request(READ, 8 * granule, 0, 9), None)
 
 
-def lines(events):
-    return "".join(json.dumps(it) + "\n" for it in events)
+def lines(told):
+    return "".join(json.dumps(it) + "\n" for it in told)
 
 
 def around(count):
@@ -80,18 +72,18 @@ def first(count):
 
 def hanging(count):
     """One granule, where a read that comes before all others never ends."""
-    read = operation(READ, 0, 9, be=0, lanes="0" * 32, start=0)
+    read = of_trace(request(READ, 0, 0, 9), start=0)
     return trace([read] + [addition(0, it, 10 * it + 1, end=10 * it + 6) for it in range(count)]), ["explain"]
 
 
 def hanging_watched(count):
     """The same as events."""
-    return lines([hung(count, 0)] + [event for it in range(count) for event in watched(it, 2 * it + 1, 0, it)]), ["watch"]
+    return lines(hung(count, 0) + [event for it in range(count) for event in watched(it, 2 * it + 1, 0, it)]), ["watch"]
 
 
 def outstanding(count):
     """Operations on one granule while a quarter as many reads of others never end."""
-    reads = [hung(count + it, it + 1) for it in range(count // 4)]
+    reads = [event for it in range(count // 4) for event in hung(count + it, it + 1)]
     return lines(reads + [event for it in range(count) for event in watched(it, 2 * it + 1, 0, it)]), ["watch"]
 
 

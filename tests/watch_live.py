@@ -187,7 +187,7 @@ def failing(preload):
 
 
 def histories():
-    ran = subprocess.run(["bench/watch.py", "200", "7"], env={**os.environ, "CHICHECK": CHECKER}, capture_output=True, text=True, timeout=600)
+    ran = subprocess.run(["tests/oracle/watch.py", "200", "7"], env={**os.environ, "CHICHECK": CHECKER}, capture_output=True, text=True, timeout=600)
     last = ran.stdout.splitlines()[-1:]
     told(f"histories by chance: {ran.stdout}{ran.stderr}", ran.returncode == 0 and last == ["200 histories, 0 disagreed on"])
 

@@ -1,66 +1,55 @@
-//! measure: runs programs in turn on one script, from file to file, and prints their times and peak memory.
+//! measure: runs a program once on a file, and prints what it took: its nanoseconds from before it is started until it has been
+//! waited for, the processor's nanoseconds, and the most KiB of memory at once.
 //!
-//!     measure SCRIPT RUNS NAME PROGRAM [WORD..] -- NAME PROGRAM [WORD..]
+//!     measure INPUT OUTPUT PROGRAM [WORD..]
 //!
-//! The ratios are the first program's to the second's.
+//! It is small itself, since the system counts the memory of what starts a program as the program's own.
 
-mod child;
-mod table;
-
-use crate::child::{Program, Run, run};
+use std::fs::File;
 use std::io;
-use std::path::Path;
-use std::process::ExitCode;
+use std::mem::MaybeUninit;
+use std::process::Command;
+use std::time::Instant;
 
-/// The programs that the words name, parted by `--`.
-fn programs(words: &[String]) -> Option<Vec<Program>> {
-    words
-        .split(|word| word == "--")
-        .map(|words| {
-            let [name, path, words @ ..] = words else {
-                return None;
-            };
-            Some(Program {
-                name: name.clone(),
-                path: path.clone(),
-                words: words.to_vec(),
-            })
-        })
-        .collect()
+fn nanoseconds(time: libc::timeval) -> i64 {
+    time.tv_sec * 1_000_000_000 + time.tv_usec * 1000
 }
 
-/// Each program's runs, taken in turn after one run of each that is not counted.
-fn measured(programs: &[Program], script: &Path, runs: usize) -> io::Result<Vec<Vec<Run>>> {
-    let mut all = vec![Vec::new(); programs.len()];
-    for number in 0..=runs {
-        for (program, of_program) in programs.iter().zip(&mut all) {
-            let run = run(program, script)?;
-            if number > 0 {
-                of_program.push(run);
-            }
-        }
+/// Waits for the child of this number: how it ended, and what it used.
+fn wait(number: u32) -> io::Result<(libc::c_int, libc::rusage)> {
+    let mut status = 0;
+    let mut usage = MaybeUninit::<libc::rusage>::zeroed();
+    // SAFETY: both pointers are to room that lives past the call, and all zeros is a `rusage`.
+    let (waited, usage) = unsafe {
+        let waited = libc::wait4(number as libc::pid_t, &mut status, 0, usage.as_mut_ptr());
+        (waited, usage.assume_init())
+    };
+    if waited < 0 {
+        return Err(io::Error::last_os_error());
     }
-    Ok(all)
+    Ok((status, usage))
 }
 
-fn main() -> ExitCode {
+fn main() -> io::Result<()> {
     let words: Vec<String> = std::env::args().skip(1).collect();
-    let [script, runs, rest @ ..] = words.as_slice() else {
-        eprintln!("usage: measure SCRIPT RUNS NAME PROGRAM [WORD..] -- NAME PROGRAM [WORD..]");
-        return ExitCode::FAILURE;
+    let [input, output, program, words @ ..] = words.as_slice() else {
+        return Err(io::Error::other(
+            "usage: measure INPUT OUTPUT PROGRAM [WORD..]",
+        ));
     };
-    let (Ok(runs), Some(programs)) = (runs.parse(), programs(rest)) else {
-        eprintln!("measure: a number of runs and then each program's name and path are wanted");
-        return ExitCode::FAILURE;
-    };
-    match measured(&programs, Path::new(script), runs) {
-        Ok(all) => {
-            table::print(&programs, &all);
-            ExitCode::SUCCESS
-        }
-        Err(fault) => {
-            eprintln!("measure: {fault}");
-            ExitCode::FAILURE
-        }
+    let mut command = Command::new(program);
+    command
+        .args(words)
+        .stdin(File::open(input)?)
+        .stdout(File::create(output)?);
+    let start = Instant::now();
+    let child = command.spawn()?;
+    let (status, usage) = wait(child.id())?;
+    let wall = start.elapsed().as_nanos();
+    if status != 0 {
+        return Err(io::Error::other(format!("{program} failed")));
     }
+    let processor = nanoseconds(usage.ru_utime) + nanoseconds(usage.ru_stime);
+    println!("{wall} {processor} {}", usage.ru_maxrss);
+    Ok(())
 }

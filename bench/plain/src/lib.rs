@@ -1,10 +1,11 @@
-//! Requests, their decoding and their operations in plain Rust, for the programs that are compared with it.
+//! Requests, their decoding and their operations in plain Rust, and numbers by chance, for all programs of the bench that are Rust.
 
 pub mod access;
 pub mod engine;
 pub mod fault;
 pub mod operation;
 pub mod race;
+pub mod random;
 pub mod region;
 pub mod request;
 pub mod row;

@@ -1,10 +1,10 @@
-//! An operation on the word of its granule. Byte `k` of a word is its bits `8k` to `8k + 7`.
+//! An operation on the word of its granule, written apart from tests/oracle/memory.py, which judges by bytes. Byte `k` of a word is its bits `8k` to `8k + 7`.
 
 use crate::access::Access;
 use crate::request::{Kind, Op};
 
 /// A completion, without data or with the packet that holds the original bytes.
-#[derive(Clone, Copy, Debug)]
+#[derive(Clone, Copy, Debug, PartialEq, Eq)]
 pub enum Reply {
     Comp,
     CompData([u8; 16]),

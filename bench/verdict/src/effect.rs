@@ -1,7 +1,7 @@
 //! What is known of an operation before any order is searched.
 
-use crate::region::execution::execute_bytes;
 use crate::trace::Observed;
+use plain::operation::{Reply, apply};
 use plain::request::{Kind, Op};
 
 /// The word that it finds has the bits of `found` in `found_mask`; it changes bits of `changed` alone; and it leaves those of
@@ -37,7 +37,7 @@ pub fn effect(op: &Observed) -> Effect {
         left_mask: 0,
         may_stay: false,
     };
-    if let Some(Some(data)) = op.reply {
+    if let Some(Reply::CompData(data)) = op.reply {
         let found = word_in(op, &data);
         return op.after(found).map_or(loose, |left| Effect {
             found,
@@ -54,7 +54,7 @@ pub fn effect(op: &Observed) -> Effect {
         | Kind::Swap
         | Kind::Store(Op::Clr | Op::Set)
         | Kind::Load(Op::Clr | Op::Set) => {
-            let [least, greatest] = [0, u64::MAX].map(|word| execute_bytes(word, &op.access).0);
+            let [least, greatest] = [0, u64::MAX].map(|word| apply(word, &op.access).0);
             let written = !(least ^ greatest);
             Effect {
                 changed: written,

@@ -1,8 +1,7 @@
 //! Traces as numbers of eight bytes, the least significant byte first: how many there are, and then each.
 
-use crate::trace::{Observed, Trace};
-use plain::access::decode;
-use plain::region::Region;
+use crate::trace::{Observed, Trace, access_of};
+use plain::operation::Reply;
 use plain::request::Request;
 use std::collections::BTreeMap;
 use std::io::{self, Read, Write};
@@ -37,12 +36,12 @@ fn write_observed(to: &mut impl Write, op: &Observed) -> io::Result<()> {
     }
     to.write_all(&request.lanes)?;
     let (kind, data) = match op.reply {
-        None => (0, None),
-        Some(None) => (1, None),
-        Some(data) => (2, data),
+        None => (0, [0; 16]),
+        Some(Reply::Comp) => (1, [0; 16]),
+        Some(Reply::CompData(data)) => (2, data),
     };
     write_number(to, kind)?;
-    to.write_all(&data.unwrap_or_default())
+    to.write_all(&data)
 }
 
 fn write_trace(to: &mut impl Write, trace: &Trace) -> io::Result<()> {
@@ -90,16 +89,13 @@ fn observed(from: &mut impl Read) -> io::Result<Observed> {
     };
     let kind = number(from)?;
     let data = bytes(from)?;
-    let line = Region::new(request.addr / 64 * 64, 8)
-        .map_err(|fault| io::Error::other(fault.to_string()))?;
-    let access =
-        decode(&request, &line).map_err(|refusal| io::Error::other(refusal.to_string()))?;
+    let access = access_of(&request).ok_or_else(|| io::Error::other("a request is refused"))?;
     Ok(Observed {
         start,
         end,
         request,
         access,
-        reply: [None, Some(None), Some(Some(data))][kind.min(2) as usize],
+        reply: [None, Some(Reply::Comp), Some(Reply::CompData(data))][kind.min(2) as usize],
     })
 }
 

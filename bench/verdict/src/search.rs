@@ -2,8 +2,8 @@
 //! first over which of them were settled and the word that they left, with a memo of the states from which no order goes on.
 
 use crate::effect::{Effect, effect, outcomes, wanted as wanted_of};
-use crate::region::execution::execute_bytes;
 use crate::trace::{Observed, Trace};
+use plain::operation::Reply;
 use plain::request::Kind;
 use std::collections::{BTreeMap, HashSet};
 use std::hash::{BuildHasherDefault, Hasher};
@@ -240,15 +240,13 @@ impl Search<'_> {
 
     /// The word that an operation leaves, where it fits the word that it finds.
     fn after(&self, state: &State, place: usize) -> Option<u64> {
-        let op = &self.ops[place];
-        let (after, data) = execute_bytes(state.word, &op.access);
-        op.reply.is_none_or(|seen| seen == data).then_some(after)
+        self.ops[place].after(state.word)
     }
 
     /// An operation that can come next and is seen to change nothing.
     fn idle_next(&self, state: &State) -> Option<usize> {
         self.places(state, state.first).find(|place| {
-            let is_told = self.ops[*place].reply.flatten().is_some();
+            let is_told = matches!(self.ops[*place].reply, Some(Reply::CompData(_)));
             is_told && self.after(state, *place) == Some(state.word)
                 || self.effects.get(*place).is_some_and(|it| {
                     it.changed == 0 && (it.found ^ state.word) & it.found_mask == 0
