@@ -153,7 +153,7 @@ fn chosen_asked<'a>(name: &str, chosen: &ArgMatches<'a>) -> Job<'a>
 ///
 /// Which arguments are refused, and as what, and which task and options the others name, `clap`'s definitions say of
 /// the program's command line. That `clap` refuses a value that an option does not have no contract says;
-/// `.ci/program` shows it.
+/// `tests/cases/chihome` shows it.
 ///
 /// ```
 /// let job = job_of(alloc, &arguments)?; // race --store lock --policy return
