@@ -62,7 +62,7 @@ def scripts():
 
 
 def covered(trace, *heads):
-    """How many lines chicheck counts in, those of them that begin so, and those from the refusals on."""
+    """How many lines the counts of a trace have, those of them that begin so, and those from the refusals on."""
     lines = output("cover", trace, CHECKER).splitlines()
     at = [it.startswith("refusals:") for it in lines].index(True)
     return len(lines), [it for it in lines[:at] if it.startswith(heads)] + lines[at:]
