@@ -8,8 +8,12 @@ import subprocess
 import sys
 
 os.chdir(f"{os.path.dirname(os.path.abspath(__file__))}/..")
+sys.dont_write_bytecode = True
+
+from process import CHECKER, HOME
+
 TASKS = {"chihome": ["run", "race", "generate"], "chicheck": ["explain", "watch", "cover"]}
-BUILT = {"chihome": "crates/chi_home/out/chi_home", "chicheck": "crates/chi_check/out/chi_check"}
+BUILT = {"chihome": HOME, "chicheck": CHECKER}
 OPTION = r"(?<![\w-])--[a-z][a-z-]*"
 wrong = []
 

@@ -170,4 +170,4 @@ with tempfile.TemporaryDirectory() as folder:
     named(folder)
     saved(folder)
     shown(folder)
-end(100)
+end(91)

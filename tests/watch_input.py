@@ -24,7 +24,7 @@ def faulty(case, text, at, fault):
 
 def examples():
     names = {it.removesuffix(".jsonl") for it in os.listdir("examples/events")}
-    told(f"examples of which no answer is known: {names}", names == {it.folder.name for it in cases_of(["watch/examples/"])})
+    told(f"examples of which no answer is known: {names}", names <= {it.folder.name for it in cases_of(["watch/examples/"])})
 
 EVENTS = {
     "request": {"id": "3", "src": "1", "txn": "2", "op": "48", "size": "3", "addr": "4104", "endian": "0", "be": "65280",

@@ -168,4 +168,4 @@ def fault_after_findings():
 build("chicheck")
 for tried in [either_order_of_words, reach, orders, legal, whole_runs, fault_after_findings]:
     tried()
-end(25)
+end(24)
