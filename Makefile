@@ -79,7 +79,8 @@ page-test: checker
 	page/test --checker $(CHECKER) $(if $(PICTURE),--picture $(PICTURE))
 
 edits:
-	.ci/edits $(CRATES)
+	$(if $(CRATES),,python3 -B tools/must_fail/test_trials.py)
+	tools/must_fail/edits $(CRATES)
 
 clauses:
 	tools/clauses

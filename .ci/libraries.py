@@ -1,4 +1,4 @@
-"""The libraries below crates, proved and built side by side: `.ci/libraries`, and what `.ci/edits` stands on."""
+"""The libraries below crates, proved and built side by side: `.ci/libraries`, and what `tools/must_fail/edits` stands on."""
 
 import concurrent.futures
 import os

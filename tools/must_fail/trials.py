@@ -19,17 +19,8 @@ from typing import NamedTuple
 
 from assumed import assume_all_but, changed_in
 from edit import applied
-from watch import provers_of
+from said import Kind, refusals_of
 
-VERDICT = re.compile(r"fn (\S+): (.*)$")
-# The verdicts of a function that is proved, where what it calls may be taken by its contract.
-PROVED = ("proved", "no holes", "depends on a hole in ")
-# A goal that is open, above the verdict of its function.
-OPEN = re.compile(r"note: src/\S+ it is not proved that ")
-CALLS = re.compile(r"(?:^|; |: )it calls `.*$")
-STANDS = re.compile(r"; it stands on `.*`, which antt refuses$")
-# A proof file that names what an edit took away: that says little of the contract.
-NAMES = re.compile(r"has no field|is not in scope|has no `|was not admitted")
 # What keeps the prover from a verdict.
 ERROR = re.compile(r"\berror[\[:]")
 # A run of the prover that came to its verdict ends so.
@@ -37,9 +28,21 @@ ENDED = re.compile(r"^(only=|logic=)")
 
 
 class Tried(NamedTuple):
+    """An edit that was tried, with its refusal if it is refused, and why it is or is not."""
+
     edit: object
-    is_refused: bool
+    refusal: object
     why: str
+
+    def __str__(self):
+        end = f"refused: {self.refusal}" if self.refusal else "NOT REFUSED"
+        return f"{self.edit.crate}/{self.edit.name}: {end}: {' '.join(self.why.split())}"
+
+
+def counts_of(tried):
+    """Returns how many edits are refused, and on what their refusals rest, in one line."""
+    kinds = Counter(it.refusal.kind for it in tried if it.refusal)
+    return f"{sum(kinds.values())} of {len(tried)} edits refused: {', '.join(f'{it.value} {kinds[it]}' for it in Kind)}"
 
 
 def kit():
@@ -52,47 +55,18 @@ def kit():
     return rtlib
 
 
-def verdicts_of(said):
-    """Returns for each function that the prover names its path, its verdict, and which of its goals are open."""
-    found, goals = [], []
-    for line in said.split("\n"):
-        verdict = VERDICT.match(line)
-        if verdict:
-            found.append((verdict[1], verdict[2], goals))
-            goals = []
-        elif OPEN.match(line):
-            goals.append(line)
-    return found
-
-
-def own_reason(path, verdict, goals, said):
-    """Returns why a function is not proved, beside what it calls, or nothing."""
-    if verdict.startswith(PROVED):
-        return ""
-    reason = STANDS.sub("", CALLS.sub("", verdict))
-    if reason not in ("no proof", "not proved"):
-        return reason
-    # what its proof file has was refused, where that is not for what an edit took away
-    folder = "/".join(path.split("::")[-2:])
-    refused = re.findall(rf"^(?:\./)?proofs/(?:\S+/)?{re.escape(folder)}/\S+ error: .*$", said, re.M)
-    return next((it for it in goals + refused if not NAMES.search(it)), "")
-
-
-def reasons_of(said):
-    """Returns why each function that is not proved is not, beside what it calls."""
-    found = {path: own_reason(path, verdict, goals, said) for path, verdict, goals in verdicts_of(said)}
-    return {path: why for path, why in found.items() if why}
-
-
 def is_function(path, function):
     """Returns whether a path is that of a function, which is told by the end of its path, or of a closure in it."""
     closures = "::fn::".join(function.rsplit("::", 1))
     return f"::{path}".endswith(f"::{function}") or f"::{closures}::" in f"::{path}"
 
 
-def reason_of(edit, reasons):
-    """Returns why the function that an edit turns is not proved, or nothing; where it is not known, why some function is not."""
-    return next((f"{path}: {why}" for path, why in reasons.items() if not edit.function or is_function(path, edit.function)), "")
+def refused(edit, refusals):
+    """Returns an edit with the refusal of the function that it turns, or none; where that is not known, with that of some function."""
+    for path, it in refusals.items():
+        if not edit.function or is_function(path, edit.function):
+            return Tried(edit, it, f"{path}: {it.why}")
+    return Tried(edit, None, "it is not refused for a reason of its own")
 
 
 def size_of(folder):
@@ -138,18 +112,17 @@ class Crate:
     def try_alone(self, edit, kept):
         said, has_ended = self.check([edit.function] if edit.function else [], [edit], kept)
         if not has_ended:
-            return Tried(edit, False, f"BAD EDIT: it did not reach the prover: {said}")
-        why = reason_of(edit, reasons_of(said))
-        return Tried(edit, bool(why), why or "NOT REFUSED for a goal of its own")
+            return Tried(edit, None, f"BAD EDIT: it did not reach the prover: {said}")
+        return refused(edit, refusals_of(said))
 
     def try_together(self, edits, kept):
         """Tries edits of different functions in one check. Returns those that are refused, and those to be tried once more."""
         said, has_ended = self.check([it.function for it in edits], edits, kept)
-        reasons = reasons_of(said) if has_ended else {}
-        tried = [Tried(it, True, reason_of(it, reasons)) for it in edits]
-        if any(all(not is_function(path, it.function) for it in edits) for path in reasons):
+        refusals = refusals_of(said) if has_ended else {}
+        if any(all(not is_function(path, it.function) for it in edits) for path in refusals):
             return [], edits
-        return [it for it in tried if it.why], [it.edit for it in tried if not it.why]
+        tried = [refused(it, refusals) for it in edits]
+        return [it for it in tried if it.refusal], [it.edit for it in tried if not it.refusal]
 
     def not_proved(self, edits, kept):
         """Returns why functions that edits turn are not proved as they stand, by the function: such an edit shows nothing."""
@@ -157,8 +130,8 @@ class Crate:
         said, has_ended = self.check(functions, [], kept) if functions else ("", True)
         if not has_ended:
             return dict.fromkeys(functions, said)
-        reasons = reasons_of(said)
-        return {it: why for it in functions for path, why in reasons.items() if is_function(path, it)}
+        refusals = refusals_of(said)
+        return {it: refusal.why for it in functions for path, refusal in refusals.items() if is_function(path, it)}
 
     def try_all(self, edits, are_seen_to_prove):
         """Tries edits of the crate, and says of each whether it is refused; perhaps once it is seen that what they turn is proved."""
@@ -166,16 +139,16 @@ class Crate:
             # to keep what is checked takes time itself, which one check alone would not win back
             kept = kept if are_seen_to_prove or turns_of(edits) > 1 else None
             broken = self.not_proved(edits, kept) if are_seen_to_prove else {}
-            tried = [Tried(it, False, f"NOT TRIED, since it is not proved as it stands: {broken[it.function]}") for it in edits if it.function in broken]
+            tried = [Tried(it, None, f"NOT TRIED, since it is not proved as it stands: {broken[it.function]}") for it in edits if it.function in broken]
             edits = [it for it in edits if it.function not in broken]
             left, alone = [it for it in edits if it.is_of_body], [it for it in edits if not it.is_of_body]
             while left:
                 turn = [*{it.function: it for it in reversed(left)}.values()]
-                refused, again = self.try_together(turn, kept) if len(turn) > 1 else ([], turn)
-                tried += refused
+                done, again = self.try_together(turn, kept) if len(turn) > 1 else ([], turn)
+                tried += done
                 left = [it for it in left if it not in turn]
                 # one whose goals wait for those of another edit is tried without that one
-                left, alone = (left + again, alone) if refused else (left, alone + again)
+                left, alone = (left + again, alone) if done else (left, alone + again)
             tried += [self.try_alone(it, kept) for it in alone]
         return sorted(tried, key=lambda it: it.edit.name)
 
@@ -184,8 +157,10 @@ class Trials:
     """The edits of a repository's crates, tried while rt ci runs: those of a crate once that is proved, where few provers run, and those
     first that take longest, by the size of the crate and the checks that follow one another."""
 
-    def __init__(self, root, edits, are_seen_to_prove=False):
+    def __init__(self, root, edits, provers_of, are_seen_to_prove=False):
         self.root, self.edits, self.rtlib, self.are_seen_to_prove = root, edits, kit(), are_seen_to_prove
+        # says how many provers work on the crates of a folder
+        self.provers_of = provers_of
         self.processors = len(os.sched_getaffinity(0))
         # so many provers may run, those of rt ci among them
         self.most = self.processors + self.processors // 2
@@ -205,7 +180,7 @@ class Trials:
         """Whether it is the crate's turn, which then has come."""
         with self.door:
             is_first = crate == max(self.waiting, key=self.work.get)
-            if not is_first or len(self.trying) + provers_of(self.root) >= self.most:
+            if not is_first or len(self.trying) + self.provers_of(self.root) >= self.most:
                 return False
             self.waiting.discard(crate)
             self.trying.add(crate)
