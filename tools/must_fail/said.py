@@ -13,15 +13,17 @@ BARE = ("no proof", "not proved")
 OPEN = re.compile(r"note: src/\S+ it is not proved that (?P<what>.*?)(?: \(`(?P<name>[^`]+)`\)(?P<more>.*))?$")
 # What such a goal is, below all verdicts.
 MUST = re.compile(r"^note: `(?P<name>[^`]+)` of (?:\./)?proofs/(?P<folder>\S+)/\w+\.antt must prove: (?P<text>.*)$", re.M)
-ERROR_IN_PROOF = re.compile(r"^(?:\./)?proofs/(?P<folder>\S+)/\w+\.antt:\S+ error: (?:`(?P<name>[^`]+)`: )?.*$", re.M)
+# What is refused of a proof file, with the lines that explain it.
+ERROR = re.compile(r"^(?P<line>(?:\./)?proofs/(?P<folder>\S+)/\w+\.antt:\S+ error: (?:`(?P<name>[^`]+)`: )?.*)(?:\n  .*)*", re.M)
 CALLS = re.compile(r"(?:^|; |: )it calls `.*$")
 STANDS = re.compile(r"; it stands on `.*`, which antt refuses$")
 # A proof file that names what an edit took away: that says little of the contract.
 NAMES = re.compile(r"has no field|is not in scope|has no `|was not admitted")
 # An answer to a goal whose name an edit took away, so that some goal has no answer.
 UNANSWERED = re.compile(r"module `\S+\.Goals` has no `")
-LIMITS = re.compile(r"at one of its limits|could not tell|ran out of|(?:step|memory) limit")
-VALUES = "allow values at which this goal is false"
+LIMITS = re.compile(r"at one of its limits|at its own limit|could not tell|ran out of|(?:step|memory) limit")
+# Values at which a goal is false. `omega` gives some too, but speaks of what it read alone.
+VALUES = re.compile(r"allow values at which this goal is false|The hypotheses hold, and the goal fails at")
 
 
 class Kind(Enum):
@@ -67,7 +69,7 @@ def kind_of_goal(what, more, text):
     if what.endswith("requires holds at this call"):
         # a call of the function itself owes that its measure falls, in one goal with what it requires
         return Kind.MEASURE if re.match(r"\S+\.falls ", text) else Kind.REQUIRES
-    if VALUES in more:
+    if VALUES.search(more):
         return Kind.FALSE
     return Kind.LIMIT if LIMITS.search(more) else Kind.OPEN
 
@@ -84,14 +86,16 @@ def goals_of(path, lines, said):
     for goal in map(OPEN.match, lines):
         name, more = goal["name"] or "", goal["more"] or ""
         text = texts.get(name, "")
-        yield Reason(kind_of_goal(goal["what"], more, text), clause_of(name, text), goal[0], VALUES in more)
+        yield Reason(kind_of_goal(goal["what"], more, text), clause_of(name, text), goal[0], bool(VALUES.search(more)))
 
 
 def errors_of(path, said):
     """Returns what is refused of a function's own proof files."""
-    for error in ERROR_IN_PROOF.finditer(said):
+    for error in ERROR.finditer(said):
         if is_of(error["folder"], path):
-            yield Reason(Kind.LIMIT if LIMITS.search(error[0]) else Kind.ANSWERS, error["name"] or "", error[0], False)
+            is_false = bool(VALUES.search(error[0]))
+            kind = Kind.LIMIT if LIMITS.search(error["line"]) else Kind.ANSWERS
+            yield Reason(Kind.FALSE if is_false else kind, clause_of(error["name"] or "", ""), error["line"], is_false)
 
 
 def kind_of_verdict(reason):

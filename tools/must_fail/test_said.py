@@ -30,6 +30,13 @@ class Kinds(unittest.TestCase):
 
     def test_answers(self):
         self.assertEqual(found(said("answers")), {"add_parts": (Kind.ANSWERS, ("loop-part-preserved",))})
+        clause = said("answers").replace("loop-part-preserved", "returns-clause-bytes")
+        self.assertEqual(found(clause), {"add_parts": (Kind.ANSWERS, ("bytes",))})
+
+    def test_answers_with_values(self):
+        wanted = {"least": (Kind.FALSE, ("returns",)), "more": (Kind.ANSWERS, ("returns",)), "most": (Kind.FALSE, ("returns",))}
+        self.assertEqual(found(said("values")), wanted)
+        self.assertNotIn("\n", "".join(it.why for it in refusals_of(said("values")).values()))
 
     def test_weak_kinds_and_a_callee_that_is_not_proved(self):
         wanted = {
