@@ -76,6 +76,11 @@ class OwnReasons(unittest.TestCase):
         goal += "; the facts known there allow values at which this goal is false"
         self.assertEqual(found(said("names").replace("fn sample::doubled", f"{goal}\nfn sample::doubled")), {"doubled": (Kind.FALSE, ("within",))})
 
+    def test_a_goal_without_its_answer_counts_where_it_is_false(self):
+        goal = "(`halved-less-requires`)"
+        text = said("names").replace(goal, f"{goal}; the facts known there allow values at which this goal is false")
+        self.assertEqual(found(text), {"there_and_back": (Kind.REQUIRES, ("halved-less-requires",))})
+
     def test_proofs_of_a_function_that_calls_itself(self):
         error = "./proofs/making/+has_maker/Answers.antt:14:3: error: `loop-place-init`: as printed, the two types first differ where one has `1`"
         refusal = refusal_of("chi_search::making::has_maker", "not proved", [], error)
