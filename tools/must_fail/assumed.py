@@ -38,14 +38,16 @@ def without_bodies(text, functions):
 
 
 def write_hole(room, path):
-    """Writes the proof of a function with a hole in it, in place of what the function has of proofs."""
+    """Writes the proof of a function with a hole in it, in place of what the function has of proofs: where it calls itself, they stand in
+    a folder whose name has a `+` before it."""
     crate, *names = path.split("::")
-    folder = "/".join([room, "proofs", *names])
-    os.makedirs(folder, exist_ok=True)
+    above = "/".join([room, "proofs", *names[:-1]])
     for it in PROOFS:
-        with contextlib.suppress(FileNotFoundError):
-            os.remove(f"{folder}/{it}")
-    with open(f"{folder}/Proof.antt", "w", encoding="utf-8") as file:
+        for folder in (names[-1], f"+{names[-1]}"):
+            with contextlib.suppress(FileNotFoundError):
+                os.remove(f"{above}/{folder}/{it}")
+    os.makedirs(f"{above}/{names[-1]}", exist_ok=True)
+    with open(f"{above}/{names[-1]}/Proof.antt", "w", encoding="utf-8") as file:
         file.write(PROOF.format(path=".".join([crate, "proofs", *names]), name=names[-1]))
 
 

@@ -20,7 +20,7 @@ STANDS = re.compile(r"; it stands on `.*`, which antt refuses$")
 # A proof file that names what an edit took away: that says little of the contract.
 NAMES = re.compile(r"has no field|is not in scope|has no `|was not admitted")
 # An answer to a goal whose name an edit took away, so that some goal has no answer.
-UNANSWERED = re.compile(r"module `\S+\.Goals` has no `")
+UNANSWERED = re.compile(r" error: `([^`]+)`: `goal\.\1`: module `\S+\.Goals` has no `")
 LIMITS = re.compile(r"at one of its limits|at its own limit|could not tell|ran out of|(?:step|memory) limit")
 # Values at which a goal is false. `omega` gives some too, but speaks of what it read alone.
 VALUES = re.compile(r"allow values at which this goal is false|The hypotheses hold, and the goal fails at")

@@ -107,6 +107,7 @@ class Assumed(WithSample):
         self.assertIn("lesser_spec = ?", text_of(f"{folder}/proofs/lesser/Proof.antt"))
         self.assertTrue(os.path.exists(f"{folder}/proofs/doubled/Answers.antt"))
         self.assertFalse(os.path.exists(f"{folder}/proofs/there_and_back/Answers.antt"))
+        self.assertFalse(os.path.exists(f"{folder}/proofs/+steps/Invariants.antt"))
 
 
 class Printed(WithSample):

@@ -76,6 +76,9 @@ class OwnReasons(unittest.TestCase):
         goal += "; the facts known there allow values at which this goal is false"
         self.assertEqual(found(said("names").replace("fn sample::doubled", f"{goal}\nfn sample::doubled")), {"doubled": (Kind.FALSE, ("within",))})
 
+    def test_more_goals_than_answers_without_one(self):
+        self.assertEqual(found(said("renamed")), {"are_traced": (Kind.LIMIT, ("returns-then-before", "loop-op-preserved"))})
+
     def test_a_goal_without_its_answer_counts_where_it_is_false(self):
         goal = "(`halved-less-requires`)"
         text = said("names").replace(goal, f"{goal}; the facts known there allow values at which this goal is false")
