@@ -79,7 +79,6 @@ page-test: checker
 	page/test --checker $(CHECKER) $(if $(PICTURE),--picture $(PICTURE))
 
 edits:
-	$(if $(CRATES),,python3 -B tools/must_fail/test_trials.py)
 	tools/must_fail/edits $(CRATES)
 
 clauses:
