@@ -53,20 +53,20 @@ unfolding completed_of
 all_found place region values found past =
     at_drop_all (λ vs. after found (completed_of place region (items_view vs))) values place past ∙ ap Ok (joined_none found)
 
-module _ (place : ℕ) (region : Option Extent) (values : List Value) (value : Value) (found : Completed) (under : place < length values)
-    (here : value ≡ get_or values place value) where
-  -- the element at the place and those after it
-  next : rest_of place region values found
-      ≡ after found (completed_at place region (view value) >>= (λ first. completed_of (place + 1) region (items_view (drop (place + 1) values)) >>= (λ rest. Ok (joined first rest))))
-  unfolding completed_of
-  next =
-      at_drop_more (λ vs. after found (completed_of place region (items_view vs))) values place value under
-      ∙ ap (λ v. after found (completed_at place region (view v) >>= (λ first. completed_of (place + 1) region (items_view (drop (place + 1) values)) >>= (λ rest. Ok (joined first rest))))) (sym here)
+-- one element more, before others
+pub one_read : (place : ℕ) (region : Option Extent) (d : Data) (found one more : Completed) → completed_at place region d ≡ Ok one → more ≡ joined found one → (rest : Items)
+    → after found (completed_of place region (item d rest)) ≡ after more (completed_of (place + 1) region rest)
+unfolding completed_of
+one_read place region d found one more is joins rest = rw (is, joins) (one_joined found one (completed_of (place + 1) region rest))
 
-  -- it is one more
-  pub one_found : (one more : Completed) → completed_at place region (view value) ≡ Ok one → more ≡ joined found one
-      → rest_of place region values found ≡ rest_of (place + 1) region values more
-  one_found one more is joins = next ∙ rw (is, joins) (one_joined found one (completed_of (place + 1) region (items_view (drop (place + 1) values))))
+-- it is the element at a place of a list
+pub one_found : (place : ℕ) (region : Option Extent) (values : List Value) (value : Value) (found : Completed) → place < length values
+    → value ≡ get_or values place value → (one more : Completed) → completed_at place region (view value) ≡ Ok one → more ≡ joined found one
+    → rest_of place region values found ≡ rest_of (place + 1) region values more
+one_found place region values value found under here one more is joins =
+    let rest : Items = items_view (drop (place + 1) values) in
+    at_drop_more (λ vs. after found (completed_of place region (items_view vs))) values place value under
+    ∙ (ap (λ v. after found (completed_of place region (item (view v) rest))) (sym here) ∙ one_read place region (view value) found one more is joins rest)
 
 -- what came of the request at a place: it was accepted
 pub accepted_by : (place : ℕ) (region : Option Extent) (s : Stated) (reply : Option Reply) (operation : Operation) → s.outcome ≡ Accepted reply
@@ -84,12 +84,6 @@ refused_by place region s reason refusal outcome refused = rw (outcome, refused)
 pub completed_so : (place : ℕ) (region : Option Extent) (d : Data) (s : Stated) → stated_at place d ≡ Ok s → completed_at place region d ≡ completed_by place region s s.outcome
 unfolding completed_at
 completed_so place region d s stated = rw stated refl
-
--- one element more, before others
-pub one_read : (place : ℕ) (region : Option Extent) (d : Data) (found one more : Completed) → completed_at place region d ≡ Ok one → more ≡ joined found one → (rest : Items)
-    → after found (completed_of place region (item d rest)) ≡ after more (completed_of (place + 1) region rest)
-unfolding completed_of
-one_read place region d found one more is joins rest = rw (is, joins) (one_joined found one (completed_of (place + 1) region rest))
 
 -- all elements, of which there are as many as were counted
 pub all_read : (place : ℕ) (region : Option Extent) (found : Completed) (ds : Items) → completed_of 0 region ds ≡ after found (completed_of place region no_items)
