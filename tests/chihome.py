@@ -4,14 +4,13 @@ written. `tests/cases/chihome` has what it answers to command lines."""
 
 import os
 import re
-import subprocess
 import sys
 from collections import Counter
 
 os.chdir(f"{os.path.dirname(os.path.abspath(__file__))}/..")
 sys.dont_write_bytecode = True
 
-from process import CHECKER, HOME, end, run, told
+from process import CHECKER, HOME, build, end, run, told
 
 ADD = "examples/fetch_add.json"
 REASONS = ["UnknownOpcode", "ReservedSize", "SizeOutOfProfile", "Misaligned", "OutOfRegion", "BadByteEnable"]
@@ -110,7 +109,7 @@ def files():
         ends(f"{task} <<< {{}} 2>&-", status)
 
 
-subprocess.run([".ci/built", *(it for it in ["chihome", "chicheck"] if it.upper() not in os.environ)], check=True)
+build("chihome", "chicheck")
 for tried in [scripts, traces, one_add, files]:
     tried()
 end(45)

@@ -5,7 +5,6 @@ that a row that is wrong fails."""
 import json
 import os
 import re
-import subprocess
 import sys
 import tempfile
 from pathlib import Path
@@ -13,7 +12,7 @@ from pathlib import Path
 os.chdir(f"{os.path.dirname(os.path.abspath(__file__))}/..")
 sys.dont_write_bytecode = True
 
-from process import HOME, end, run, told
+from process import HOME, build, end, run, told
 
 NAME, NUMBER, BYTES = r"`([A-Za-z]+)`", r"(\d+)", r"`(\w\w) (\w\w)`"
 
@@ -83,7 +82,7 @@ def faults(folder):
                 told(f"{task} of {fault}", run(HOME, [task], shown) == wanted)
 
 
-subprocess.run([".ci/built", *(it for it in ["chihome"] if "CHIHOME" not in os.environ)], check=True)
+build("chihome")
 opcodes()
 operations()
 refusals()

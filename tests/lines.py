@@ -1,9 +1,9 @@
-"""Events and flits as lines, of which watching and flits make their cases, and the counts that a watch says of them."""
+"""Events and flits as lines, and what a watch says of them: its counts, and the lines that say how far a granule can be explained."""
 
 import json
 
 MOST = 2**64 - 1
-ADD, READ, STORE, WRITE, SWAP, COMPARE = 48, 4, 40, 28, 56, 57
+ADD, READ, STORE, WRITE = 48, 4, 40, 28
 LOW, HIGH = 0x1000, 0x1008
 
 

@@ -16,7 +16,7 @@ from pathlib import Path
 
 sys.dont_write_bytecode = True
 
-from process import CHECKER, HOME, end, run, told
+from process import CHECKER, HOME, build, end, run, told
 
 FOLDER, BIN = sys.argv[1:] or (Path(__file__).resolve().parent.parent, None)
 os.chdir(FOLDER)
@@ -61,7 +61,7 @@ def try_commands(page):
 
 
 if not BIN:
-    subprocess.run([".ci/built", *(it for it in PROGRAMS if it.upper() not in os.environ)], check=True)
+    build(*PROGRAMS)
 with tempfile.TemporaryDirectory() as folder:
     for name, program in PROGRAMS.items():
         os.symlink(os.path.realpath(program), f"{folder}/{name}")

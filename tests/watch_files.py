@@ -14,6 +14,22 @@ from lines import HIGH, LOST, LOW, adds, answers, asks, counts, done, drops, end
 from process import CHECKER, build, end, run, told, wants
 
 
+# Runs that list no granule, each with its words, its events and its status.
+UNLISTED = [
+    ("explained", ["watch"], example("two_adds"), 0),
+    ("undecided", ["watch", "--budget", "0"], done(10, 0), 6),
+    ("required and missing", ["watch", "--require-end"], done(10, 0), 1),
+    ("a fault", ["watch"], f"{adds(10, 0)}{{\n", 3),
+    ("a fault after a granule was found", ["watch", "--keep-going"], LOST + adds(50, 9) + "{\n", 3),
+]
+# Events of a granule that is listed, and what is written by the line at which it is found.
+LISTED = [("found by a line", LOST, found((HIGH, 4))), ("found at the end", done(10, 0) + leaves(20, 7), "")]
+# Events of two granules that come one between the other, with numbers that both have in turn; and those of the one that is not explained.
+RIGHT = holds(1, 0, LOW), asks(10, 7, addr=LOW), sends(11, 7, addr=LOW), answers(12, 7, 0, LOW), forgets(13, LOW, 8)
+WRONG = holds(1, 0), adds(10, 0), answers(11, 0, 0), adds(12, 7), answers(14, 7, 0)
+TWO = WRONG[0] + RIGHT[0] + RIGHT[1] + WRONG[1] + RIGHT[2] + WRONG[2] + RIGHT[3] + WRONG[3] + RIGHT[4] + WRONG[4]
+
+
 def devices():
     """An input that cannot be read, and an output that cannot be written."""
     for case, files, fault in [
@@ -65,34 +81,25 @@ def saves(case, text, granule, lines, folder, words="watch"):
 def saved(folder):
     """The lines that tell of the granule that is listed first are written to a file: of two granules that come one between the other,
     with numbers that both have in turn, up to the time by which it was found."""
-    right = holds(1, 0, LOW), asks(10, 7, addr=LOW), sends(11, 7, addr=LOW), answers(12, 7, 0, LOW), forgets(13, LOW, 8)
-    wrong = holds(1, 0), adds(10, 0), answers(11, 0, 0), adds(12, 7), answers(14, 7, 0)
-    text = wrong[0] + right[0] + right[1] + wrong[1] + right[2] + wrong[2] + right[3] + wrong[3] + right[4] + wrong[4]
-    saves("two granules", text, HIGH, "".join(wrong), folder)
-    saves("without a line feed after the last line", text[:-1], HIGH, "".join(wrong)[:-1], folder)
-    saves("with blank lines", text + " \n\n", HIGH, "".join(wrong), folder)
-    saves("not what comes later", text + adds(15, 8), HIGH, "".join(wrong), folder)
-    last = "".join(wrong) + drops(14, 9) + adds(14, 8) + ends(14)
-    dropped = text.replace(wrong[3], wrong[3] + adds(12, 9)) + drops(14, 9) + adds(14, 8) + ends(14)
-    saves("all of the time at which it was found", dropped, HIGH, last.replace(wrong[3], wrong[3] + adds(12, 9)), folder)
-    saves("with --keep-going what comes later too", text + done(20, 2, number=3) + ends(30), HIGH, "".join(wrong) + done(20, 2, number=3) + ends(30), folder, "watch --keep-going")
+    saves("two granules", TWO, HIGH, "".join(WRONG), folder)
+    saves("without a line feed after the last line", TWO[:-1], HIGH, "".join(WRONG)[:-1], folder)
+    saves("with blank lines", TWO + " \n\n", HIGH, "".join(WRONG), folder)
+    saves("not what comes later", TWO + adds(15, 8), HIGH, "".join(WRONG), folder)
+    last = "".join(WRONG) + drops(14, 9) + adds(14, 8) + ends(14)
+    dropped = TWO.replace(WRONG[3], WRONG[3] + adds(12, 9)) + drops(14, 9) + adds(14, 8) + ends(14)
+    saves("all of the time at which it was found", dropped, HIGH, last.replace(WRONG[3], WRONG[3] + adds(12, 9)), folder)
+    saves("with --keep-going what comes later too", TWO + done(20, 2, number=3) + ends(30), HIGH, "".join(WRONG) + done(20, 2, number=3) + ends(30), folder, "watch --keep-going")
     both = done(10, 3) + done(20, 5, addr=LOW) + ends(30)
     saves("the first of two", both, HIGH, done(10, 3) + ends(30), folder, "watch --keep-going")
     at_end = done(10, 0, addr=LOW) + leaves(20, 7, LOW) + done(30, None) + ends(40)
     saves("at the end", at_end, LOW, done(10, 0, addr=LOW) + leaves(20, 7, LOW) + ends(40), folder)
     path, none = f"{folder}/saved.jsonl", f"{folder}/none/saved.jsonl"
-    for case, words, events, status in [
-        ("explained", ["watch"], example("two_adds"), 0),
-        ("undecided", ["watch", "--budget", "0"], done(10, 0), 6),
-        ("required and missing", ["watch", "--require-end"], done(10, 0), 1),
-        ("a fault", ["watch"], f"{adds(10, 0)}{{\n", 3),
-        ("a fault after a granule was found", ["watch", "--keep-going"], LOST + adds(50, 9) + "{\n", 3),
-    ]:
+    for case, words, events, status in UNLISTED:
         wanted = run(CHECKER, words, events)
         for where in (path, none):
             ended = run(CHECKER, [*words, "--save", where], events)
             told(f"{case}: {ended}", ended == wanted and ended[0] == status and not os.path.exists(where))
-    for case, events, out in [("found by a line", LOST, found((HIGH, 4))), ("found at the end", done(10, 0) + leaves(20, 7), "")]:
+    for case, events, out in LISTED:
         for words in (["watch"], ["watch", "--keep-going"]):
             status, answer, errors = run(CHECKER, [*words, "--save", none], events)
             told(f"{case}, to no folder: {status}, {answer}, {errors}", (status, without_reach(answer), errors) == (5, out, b"chicheck: lines could not be saved\n"))
@@ -118,16 +125,13 @@ def shows(case, text, granule, read, folder, words="watch", budget=()):
 def shown(folder):
     """A page is made of the granule that is listed first, by a line or at the end, of the lines that were read by then; after the
     file of its lines, where that is asked for too; and none where no granule is listed."""
-    right = holds(1, 0, LOW), asks(10, 7, addr=LOW), sends(11, 7, addr=LOW), answers(12, 7, 0, LOW), forgets(13, LOW, 8)
-    wrong = holds(1, 0), adds(10, 0), answers(11, 0, 0), adds(12, 7), answers(14, 7, 0)
-    text = wrong[0] + right[0] + right[1] + wrong[1] + right[2] + wrong[2] + right[3] + wrong[3] + right[4] + wrong[4]
-    shows("a page of two granules", text, HIGH, text, folder)
-    shows("without a line feed after the last line", text[:-1], HIGH, text, folder)
-    shows("with blank lines", text + " \n\n", HIGH, text, folder)
-    shows("not what comes later", text + adds(15, 8), HIGH, text, folder)
-    last = text.replace(wrong[3], wrong[3] + adds(12, 9)) + drops(14, 9) + adds(14, 8) + ends(14)
+    shows("a page of two granules", TWO, HIGH, TWO, folder)
+    shows("without a line feed after the last line", TWO[:-1], HIGH, TWO, folder)
+    shows("with blank lines", TWO + " \n\n", HIGH, TWO, folder)
+    shows("not what comes later", TWO + adds(15, 8), HIGH, TWO, folder)
+    last = TWO.replace(WRONG[3], WRONG[3] + adds(12, 9)) + drops(14, 9) + adds(14, 8) + ends(14)
     shows("all of the time at which it was found", last, HIGH, last, folder)
-    many = text + done(20, 2, number=3) + ends(30)
+    many = TWO + done(20, 2, number=3) + ends(30)
     shows("with --keep-going what comes later too", many, HIGH, many, folder, "watch --keep-going")
     both = done(10, 3) + done(20, 5, addr=LOW) + ends(30)
     shows("the first of two", both, HIGH, both, folder, "watch --keep-going")
@@ -137,18 +141,12 @@ def shown(folder):
     for budget in "239":
         shows(f"with a budget of {budget}", lost, HIGH, "".join(lost.splitlines(True)[:4]), folder, budget=["--budget", budget])
     made, none, lines = f"{folder}/made.html", f"{folder}/none/made.html", f"{folder}/lines.jsonl"
-    for case, words, events, status in [
-        ("explained", ["watch"], example("two_adds"), 0),
-        ("undecided", ["watch", "--budget", "0"], done(10, 0), 6),
-        ("required and missing", ["watch", "--require-end"], done(10, 0), 1),
-        ("a fault", ["watch"], f"{adds(10, 0)}{{\n", 3),
-        ("a fault after a granule was found", ["watch", "--keep-going"], LOST + adds(50, 9) + "{\n", 3),
-    ]:
+    for case, words, events, status in UNLISTED:
         wanted = run(CHECKER, words, events)
         for where in (made, none):
             ended = run(CHECKER, [*words, "--html", where, "--save", lines], events)
             told(f"no page: {case}: {ended}", ended == wanted and ended[0] == status and not os.path.exists(where) and not os.path.exists(lines))
-    for case, events, out in [("found by a line", LOST, found((HIGH, 4))), ("found at the end", done(10, 0) + leaves(20, 7), "")]:
+    for case, events, out in LISTED:
         alone = run(CHECKER, ["watch", "--save", lines], events)
         saved_alone = bytes_of(lines)
         os.remove(lines)
