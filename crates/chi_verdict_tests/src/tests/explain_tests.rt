@@ -1,8 +1,8 @@
 //! Tests of whole traces with answers that were worked by hand.
 
+use crate::tests::comparison::assert_same;
 use crate::tests::traces::{BUDGET, HIGH, LOW, LOWER, Timed, UPPER, WRITE, trace};
 use crate::tests::verdicts::{Case, Told, assert_verdict, assert_verdicts, verdict};
-use chi_comparison::assert_same;
 use chi_search::{Found, NoProgress};
 use chi_trace::{GranuleWords, Trace};
 use chi_verdict::{Grouped, Verdict};
