@@ -4,6 +4,7 @@
 mod answer;
 mod cut_short;
 mod doubt_lines;
+mod format;
 mod lines;
 mod stop_lines;
 mod text;
@@ -13,6 +14,7 @@ mod witness;
 pub use answer::{Answer, answer_of};
 pub use cut_short::add_cut_short;
 pub use doubt_lines::add_found_time;
+pub use format::AnswerFormat;
 pub use lines::{add_granule, add_undecided};
 pub use stop_lines::add_stop;
 pub use text::{add_blame, add_words_at_end, answer_text};

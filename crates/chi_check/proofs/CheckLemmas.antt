@@ -15,8 +15,8 @@ use Rattle.chi_check.specs.Written.{IsLines, IsWrittenAs}
 use Rattle.chi_check.specs.declared.fault.CheckFault.TheVariants.{Input, Page, Write}
 use Rattle.chi_check.specs.declared.fault.SourceFault.{SourceFault}
 use Rattle.chi_check.specs.declared.fault.SourceFault.TheVariants as source_fault
-use Rattle.chi_check.specs.declared.options.AnswerFormat.{AnswerFormat}
-use Rattle.chi_check.specs.declared.options.AnswerFormat.TheVariants.{Text, Json}
+use Rattle.chi_answer.specs.declared.format.AnswerFormat.{AnswerFormat}
+use Rattle.chi_answer.specs.declared.format.AnswerFormat.TheVariants.{Text, Json}
 use Rattle.chi_check.specs.declared.options.CheckOptions.{CheckOptions}
 
 -- the answer that stands behind a report

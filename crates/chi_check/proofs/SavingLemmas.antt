@@ -12,7 +12,7 @@ use Rattle.chi_watch_text.specs.Outcomes.{IsWatched}
 use Rattle.chi_watch_text.specs.LineTold.{read_at_start}
 use Rattle.chi_watch_text.specs.Lines.{AreEvents}
 use Rattle.chi_watch_text.specs.Saved.{AreWhole, IsOfNoLine}
-use Rattle.chi_watch_text.specs.Texts.{closing_text, found_text, watched_text}
+use Rattle.chi_watch_text.specs.Written.{closing_text, found_text, watched_text}
 use Rattle.chi_watch_text.specs.declared.fault.LinesFault.{LinesFault}
 use Rattle.chi_watch_text.specs.declared.fault.LinesFault.TheVariants as lines_fault
 use Rattle.chi_watch_text.specs.declared.line_format.LineFormat.{LineFormat}
@@ -37,7 +37,7 @@ whole format input going w is kept events all = record {
 }
 
 -- lines that were not put: the granules that were found are written
-module _ (options : WatchOptions) (old new : Option (List ℕ)) (w : Watched) (told : Appends old new (flat_map found_text w.found.items)) where
+module _ (options : WatchOptions) (old new : Option (List ℕ)) (w : Watched) (told : Appends old new (flat_map (found_text options.answer) w.found.items)) where
   of_no_line : (input : List ℕ) (f : LinesFault) → IsWatched options.format input options.keep_going w → IsOfNoLine f → WatchOutcome options input old new (Err (stopped_by f w.found.items))
   of_no_line input lines_fault.Read is none = before_it options old new input lines_fault.Read w.found.items tt is.found told
   of_no_line input (lines_fault.Line n f) is none = absurd none
@@ -67,13 +67,14 @@ module _ (options : WatchOptions) (old new : Option (List ℕ)) (w : Watched) (t
 
 -- after Ok all was watched, and this is its status and the text that was written
 pub whole_told : (options : WatchingOptions) (how : WatchOptions) (remaining old mid new : Option (List ℕ)) (w : Watched) (result : Result ℕ CheckFault) → how ≡ watching options
-    → IfSome remaining (λ input. IsWatched how.format input how.keep_going w) → Appends old mid (flat_map found_text w.found.items) → WritesClosing how w mid new result
+    → IfSome remaining (λ input. IsWatched how.format input how.keep_going w) → Appends old mid (flat_map (found_text how.answer) w.found.items) → WritesClosing how w mid new result
     → IfOk result (λ status. IfSome remaining (λ input. IsWatched options.format input options.keep_going w × (status ≡ watch_status (watching options) w)
     × Appends old new (watched_text (watching options) w)))
 whole_told options how remaining old mid new w (Err fault) how_is is told writes = tt
 whole_told options how remaining old mid new w (Ok status) how_is is told writes =
     let both = subst (λ (h : WatchOptions). (status ≡ watch_status h w) × Appends mid new (closing_text h w)) how_is writes in
-    let text = taken_then old mid new (flat_map found_text w.found.items) (closing_text (watching options) w) told both.1 in
+    let first = subst (λ (h : WatchOptions). Appends old mid (flat_map (found_text h.answer) w.found.items)) how_is told in
+    let text = taken_then old mid new (flat_map (found_text options.answer) w.found.items) (closing_text (watching options) w) first both.1 in
     IfSome_then remaining is (λ input it. (subst (λ (h : WatchOptions). IsWatched h.format input h.keep_going w) how_is it, both.0, text))
 
 -- what was put at the path
@@ -120,7 +121,7 @@ module _ {P : Type 0} (has_put : P → List ℕ → List ℕ → Type 0) where
       (w, is, status_is, appends, put_then (first_listed w) (AreSavedOf options.format input is.rest is.told.lines is.events) path.now before between after first more)
 
   pub saved : (options : WatchingOptions) (how : WatchOptions) (remaining old mid new : Option (List ℕ)) (w : Watched) (before between after : P) (result : Result ℕ CheckFault)
-      → how ≡ watching options → IfSome remaining (λ input. IsWatched how.format input how.keep_going w) → is_some w.kept ≡ how.keep_lines → Appends old mid (flat_map found_text w.found.items)
+      → how ≡ watching options → IfSome remaining (λ input. IsWatched how.format input how.keep_going w) → is_some w.kept ≡ how.keep_lines → Appends old mid (flat_map (found_text how.answer) w.found.items)
       → WritesClosing how w mid new result → IfSome options.save (λ path. IsFirstPut has_put options.format w path.now before between) → PutsMore has_put (first_listed w) between after
       → IfOk result (λ status. IfSome remaining (λ input. SavesFirst has_put options input old new status before after))
   saved options how remaining old mid new w before between after result how_is is keeps told writes put more =

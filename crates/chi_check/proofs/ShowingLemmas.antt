@@ -10,7 +10,7 @@ use Rattle.chi_reading.specs.TraceText.{RecordedValue}
 use Rattle.chi_search.specs.Looks.{Grew, Search}
 use Rattle.chi_watch_text.specs.Kept.{AreKept}
 use Rattle.chi_watch_text.specs.Outcomes.{IsWatched}
-use Rattle.chi_watch_text.specs.Texts.{found_text, watched_text}
+use Rattle.chi_watch_text.specs.Written.{found_text, watched_text}
 use Rattle.chi_watch_text.specs.declared.fault.LinesFault.TheVariants as lines_fault
 use Rattle.chi_watch_text.specs.declared.options.WatchOptions.{WatchOptions}
 use Rattle.chi_watch_text.specs.declared.watched.Watched.{Watched}
@@ -43,7 +43,7 @@ spent_after states looked old middle new budget first then n knows =
     (ended.0, omega (arith, begun.1, ended.1), ended.2)
 
 -- a page that was not put: the granules that were found are written
-module _ (options : WatchOptions) (old new : Option (List ℕ)) (w : Watched) (told : Appends old new (flat_map found_text w.found.items)) where
+module _ (options : WatchOptions) (old new : Option (List ℕ)) (w : Watched) (told : Appends old new (flat_map (found_text options.answer) w.found.items)) where
   unshown_in : (input : List ℕ) (fault : CheckFault) → IsWatched options.format input options.keep_going w → IsUnshown w fault → WatchOutcome options input old new (Err fault)
   unshown_in input fault is (inl same) = subst (λ (f : CheckFault). WatchOutcome options input old new (Err f)) (sym same) (w, is, told)
   unshown_in input fault is (inr same) =
@@ -84,7 +84,7 @@ module _ {P : Type 0} (has_put : P → List ℕ → List ℕ → Type 0) (option
       (w, is, status_is, appends, more_then has_put (first_listed w) (IsPageOfRead options input is.rest) path.now before between after more first)
 
   pub shown : (how : WatchOptions) (remaining old mid new : Option (List ℕ)) (w : Watched) (before between after : P) (result : Result ℕ CheckFault) → how ≡ watching options
-      → IfSome remaining (λ input. IsWatched how.format input how.keep_going w) → is_some w.kept ≡ how.keep_lines → Appends old mid (flat_map found_text w.found.items)
+      → IfSome remaining (λ input. IsWatched how.format input how.keep_going w) → is_some w.kept ≡ how.keep_lines → Appends old mid (flat_map (found_text how.answer) w.found.items)
       → WritesClosing how w mid new result → PutsMore has_put (first_listed w) before between → IfSome options.html (λ path. IsFirstShown has_put options w path.now between after)
       → IfOk result (λ status. IfSome remaining (λ input. ShowsFirst has_put options input old new status before after))
   shown how remaining old mid new w before between after result how_is is keeps told writes more put =

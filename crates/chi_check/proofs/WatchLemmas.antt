@@ -13,7 +13,7 @@ use Rattle.chi_watch.specs.declared.undecided.UndecidedAtEnd.{UndecidedAtEnd}
 use Rattle.chi_watch_text.specs.FoundGranule.{ending_verdict, found_verdict, listed_verdict, verdict_of}
 use Rattle.chi_watch_text.specs.Outcomes.{IsFoundBy, IsLinesFault, IsOutcome, IsWatched, IsWatchingFault, WentBy}
 use Rattle.chi_watch_text.specs.Required.{is_nothing, missing_of}
-use Rattle.chi_watch_text.specs.Texts.{closing_text, found_text, watched_text}
+use Rattle.chi_watch_text.specs.Written.{closing_text, found_text, watched_text}
 use Rattle.chi_watch_text.specs.declared.fault.LinesFault.{LinesFault}
 use Rattle.chi_watch_text.specs.declared.fault.LinesFault.TheVariants as lines_fault
 use Rattle.chi_watch_text.specs.declared.watched.Unfinished.{Unfinished}
@@ -48,18 +48,18 @@ kept_none (Some xs) (Some ys) appends = appends ∙ append-nil xs
 
 -- a watch that has no answer: the granules that were found are written
 module _ (options : WatchOptions) (old new : Option (List ℕ)) where
-  pub before_it : (input : List ℕ) (f : LinesFault) (found : List FoundGranule) → IsLinesFault options.format input f → All (IsFoundBy options.format input) found → Appends old new (flat_map found_text found)
+  pub before_it : (input : List ℕ) (f : LinesFault) (found : List FoundGranule) → IsLinesFault options.format input f → All (IsFoundBy options.format input) found → Appends old new (flat_map (found_text options.answer) found)
       → WatchOutcome options input old new (Err (found_before f found))
   before_it input f [] is all appends = is
   before_it input f (g ∷ found) is all appends = (is, (g ∷ found, all, omega arith, appends))
 
-  kept_before : (f : LinesFault) (found : List FoundGranule) → Appends old new (flat_map found_text found) → KeepsUnanswered old new (Err (found_before f found))
+  kept_before : (f : LinesFault) (found : List FoundGranule) → Appends old new (flat_map (found_text options.answer) found) → KeepsUnanswered old new (Err (found_before f found))
   kept_before f [] appends = kept_none old new appends
   kept_before f (g ∷ found) appends = tt
 
   -- or a prefix of them, where they could not be
-  stops_in : (input : List ℕ) (f : LinesFault) (found : List FoundGranule) → IsWatchingFault options.format input f → All (IsFoundBy options.format input) found → ((f ≡ lines_fault.Write → ⊥) → Appends old new (flat_map found_text found))
-      → AppendsFront old new (flat_map found_text found) → WatchOutcome options input old new (Err (stopped_by f found))
+  stops_in : (input : List ℕ) (f : LinesFault) (found : List FoundGranule) → IsWatchingFault options.format input f → All (IsFoundBy options.format input) found → ((f ≡ lines_fault.Write → ⊥) → Appends old new (flat_map (found_text options.answer) found))
+      → AppendsFront old new (flat_map (found_text options.answer) found) → WatchOutcome options input old new (Err (stopped_by f found))
   stops_in input lines_fault.Write found is all kept front = inr (found, all, front)
   stops_in input lines_fault.Read found is all kept front = let not : lines_fault.Read ≡ lines_fault.Write → ⊥ = λ same. cc in before_it input lines_fault.Read found (is not) all (kept not)
   stops_in input (lines_fault.Line n f) found is all kept front =
@@ -70,12 +70,12 @@ module _ (options : WatchOptions) (old new : Option (List ℕ)) where
       let not : lines_fault.TooManyLines ≡ lines_fault.Write → ⊥ = λ same. cc in before_it input lines_fault.TooManyLines found (is not) all (kept not)
   stops_in input lines_fault.Memory found is all kept front = let not : lines_fault.Memory ≡ lines_fault.Write → ⊥ = λ same. cc in before_it input lines_fault.Memory found (is not) all (kept not)
 
-  pub stopped : (remaining : Option (List ℕ)) (u : Unfinished) → IfSome remaining (λ input. IsOutcome options.format input options.keep_going (Err u)) → ((u.fault ≡ lines_fault.Write → ⊥) → Appends old new (flat_map found_text u.found.items))
-      → AppendsFront old new (flat_map found_text u.found.items) → IfSome remaining (λ input. WatchOutcome options input old new (Err (stopped_by u.fault u.found.items)))
+  pub stopped : (remaining : Option (List ℕ)) (u : Unfinished) → IfSome remaining (λ input. IsOutcome options.format input options.keep_going (Err u)) → ((u.fault ≡ lines_fault.Write → ⊥) → Appends old new (flat_map (found_text options.answer) u.found.items))
+      → AppendsFront old new (flat_map (found_text options.answer) u.found.items) → IfSome remaining (λ input. WatchOutcome options input old new (Err (stopped_by u.fault u.found.items)))
   stopped None u is kept front = tt
   stopped (Some input) u (fault, all) kept front = stops_in input u.fault u.found.items fault all kept front
 
-  pub unanswered : (f : LinesFault) (found : List FoundGranule) → ((f ≡ lines_fault.Write → ⊥) → Appends old new (flat_map found_text found)) → KeepsUnanswered old new (Err (stopped_by f found))
+  pub unanswered : (f : LinesFault) (found : List FoundGranule) → ((f ≡ lines_fault.Write → ⊥) → Appends old new (flat_map (found_text options.answer) found)) → KeepsUnanswered old new (Err (stopped_by f found))
   unanswered lines_fault.Write found kept = tt
   unanswered lines_fault.Read found kept = kept_before lines_fault.Read found (kept (λ (same : lines_fault.Read ≡ lines_fault.Write). cc))
   unanswered (lines_fault.Line n f) found kept = kept_before (lines_fault.Line n f) found (kept (λ (same : lines_fault.Line n f ≡ lines_fault.Write). cc))
@@ -84,16 +84,16 @@ module _ (options : WatchOptions) (old new : Option (List ℕ)) where
   unanswered lines_fault.Memory found kept = kept_before lines_fault.Memory found (kept (λ (same : lines_fault.Memory ≡ lines_fault.Write). cc))
 
 -- what is said once all is watched was written after the granules that were found, or what a fault leaves of it
-module _ (options : WatchOptions) (old mid new : Option (List ℕ)) (watched : Watched) (told : Appends old mid (flat_map found_text watched.found.items)) where
+module _ (options : WatchOptions) (old mid new : Option (List ℕ)) (watched : Watched) (told : Appends old mid (flat_map (found_text options.answer) watched.found.items)) where
   no_memory : (input : List ℕ) (fault : CheckFault) → IsWatched options.format input options.keep_going watched → fault ≡ stopped_by lines_fault.Memory watched.found.items → Keeps mid new
       → WatchOutcome options input old new (Err fault)
   no_memory input fault is same keeps =
       subst (λ (f : CheckFault). WatchOutcome options input old new (Err f)) (sym same)
-      (before_it options old new input lines_fault.Memory watched.found.items tt is.found (appends_kept old mid new (flat_map found_text watched.found.items) told keeps))
+      (before_it options old new input lines_fault.Memory watched.found.items tt is.found (appends_kept old mid new (flat_map (found_text options.answer) watched.found.items) told keeps))
 
   closed_in : (input : List ℕ) (result : Result ℕ CheckFault) → IsWatched options.format input options.keep_going watched → WritesClosing options watched mid new result → WatchOutcome options input old new result
-  closed_in input (Ok status) is (status_is, appends) = (watched, is, status_is, taken_then old mid new (flat_map found_text watched.found.items) (closing_text options watched) told appends)
-  closed_in input (Err (check_fault.Write fault)) is front = inl (watched, is, front_then old mid new (flat_map found_text watched.found.items) (closing_text options watched) told front)
+  closed_in input (Ok status) is (status_is, appends) = (watched, is, status_is, taken_then old mid new (flat_map (found_text options.answer) watched.found.items) (closing_text options watched) told appends)
+  closed_in input (Err (check_fault.Write fault)) is front = inl (watched, is, front_then old mid new (flat_map (found_text options.answer) watched.found.items) (closing_text options watched) told front)
   closed_in input (Err (check_fault.Input fault)) is (same, keeps) = no_memory input (check_fault.Input fault) is same keeps
   closed_in input (Err (check_fault.File place fault)) is (same, keeps) = no_memory input (check_fault.File place fault) is same keeps
   closed_in input (Err (check_fault.Untold addr)) is (same, keeps) = no_memory input (check_fault.Untold addr) is same keeps
@@ -110,7 +110,7 @@ module _ (options : WatchOptions) (old mid new : Option (List ℕ)) (watched : W
   kept_memory : (fault : CheckFault) → fault ≡ stopped_by lines_fault.Memory watched.found.items → Keeps mid new → KeepsUnanswered old new (Err fault)
   kept_memory fault same keeps =
       subst (λ (f : CheckFault). KeepsUnanswered old new (Err f)) (sym same)
-      (kept_before options old new lines_fault.Memory watched.found.items (appends_kept old mid new (flat_map found_text watched.found.items) told keeps))
+      (kept_before options old new lines_fault.Memory watched.found.items (appends_kept old mid new (flat_map (found_text options.answer) watched.found.items) told keeps))
 
   pub closed_unanswered : (result : Result ℕ CheckFault) → WritesClosing options watched mid new result → KeepsUnanswered old new result
   closed_unanswered (Ok status) writes = tt

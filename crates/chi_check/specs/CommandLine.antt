@@ -50,11 +50,12 @@ operations_rule = number_rule_or (codes "require-operations") (codes "0")
 abbrev pub save_rule : Rule
 save_rule = text_rule (codes "save") []
 
--- the task `watch`: its input may tell flits, with points or without, and what errors say of them, it has a budget, a file of the lines of a granule and one of its page, may be asked to keep going, and may require
--- the end, operations, quiet and judging, and it has a file that is read
+-- The task `watch`: its input may tell flits, with points or without, and what errors say of them. It has a budget, a form of the answer,
+-- a file of the lines of a granule and one of its page. It may be asked to keep going, and may require the end, operations, quiet and
+-- judging. It has a file that is read.
 abbrev pub watch_app : App
 watch_app =
-    with_rule (with_rule (with_rule (with_rule (with_rule (with_rule (with_rule (with_rule (with_rule (with_rule (with_rule (with_rule (new_app (codes "watch")) (switch_rule (codes "flits"))) (switch_rule (codes "points"))) errors_rule) budget_rule) save_rule) html_rule)
+    with_rule (with_rule (with_rule (with_rule (with_rule (with_rule (with_rule (with_rule (with_rule (with_rule (with_rule (with_rule (with_rule (new_app (codes "watch")) (switch_rule (codes "flits"))) (switch_rule (codes "points"))) errors_rule) budget_rule) format_rule) save_rule) html_rule)
     (switch_rule (codes "keep-going"))) (switch_rule (codes "require-end"))) operations_rule) (switch_rule (codes "require-quiet"))) (switch_rule (codes "require-judged"))) file_rule
 
 -- how many of a hundred bins have to have counted an operation is a whole number below 2^64, and 0 by default

@@ -22,8 +22,8 @@ use Rattle.chi_check.specs.declared.fault.CheckFault.{CheckFault}
 use Rattle.chi_check.specs.declared.fault.CheckFault.TheVariants.{Input, File, Page, Unfinished, Untold, Unsaved, Unshown, Write}
 use Rattle.chi_check.specs.declared.fault.SourceFault.{SourceFault}
 use Rattle.chi_check.specs.declared.fault.SourceFault.TheVariants as source_fault
-use Rattle.chi_check.specs.declared.options.AnswerFormat.{AnswerFormat}
-use Rattle.chi_check.specs.declared.options.AnswerFormat.TheVariants.{Text, Json}
+use Rattle.chi_answer.specs.declared.format.AnswerFormat.{AnswerFormat}
+use Rattle.chi_answer.specs.declared.format.AnswerFormat.TheVariants.{Text, Json}
 use Rattle.chi_check.specs.declared.options.CoverOptions.{CoverOptions}
 
 -- the paths that were named

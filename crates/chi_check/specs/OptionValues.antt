@@ -21,8 +21,8 @@ use Rattle.chi_watch_text.specs.declared.line_format.LineFormat.TheVariants.{Eve
 use Rattle.chi_watch_text.specs.declared.required.Required.{Required}
 use Rattle.chi_check.specs.CommandLine.{program_app}
 use Rattle.chi_check.specs.Cover.{paths_of}
-use Rattle.chi_check.specs.declared.options.AnswerFormat.{AnswerFormat}
-use Rattle.chi_check.specs.declared.options.AnswerFormat.TheVariants as answer
+use Rattle.chi_answer.specs.declared.format.AnswerFormat.{AnswerFormat}
+use Rattle.chi_answer.specs.declared.format.AnswerFormat.TheVariants as answer
 use Rattle.chi_check.specs.declared.options.CheckOptions.{CheckOptions}
 use Rattle.chi_check.specs.declared.options.CoverOptions.{CoverOptions}
 use Rattle.chi_check.specs.declared.options.WatchingOptions.{WatchingOptions}
@@ -136,6 +136,7 @@ pub record HasRequired (found : List Row) (required : Required) : Type 0 where
 -- and its other options
 pub record HasWatchOptions (found : List Row) (options : WatchingOptions) : Type 0 where
   pub format : options.format ≡ format_asked found
+  pub answer : options.answer ≡ answer_format found
   pub keep_going : options.keep_going ≡ has_word found (codes "keep-going") (codes "true")
   pub budget : IsNumberOr 1000000 (one_of (codes "budget") found) options.budget
   pub required : HasRequired found options.required

@@ -6,7 +6,7 @@ use Rattle.chi_watch.specs.declared.ending.Ending.{Ending}
 use Rattle.chi_watch.specs.declared.ending.FoundAtEnd.{FoundAtEnd}
 use Rattle.chi_watch_text.specs.Outcomes.{IsWatched}
 use Rattle.chi_watch_text.specs.Saved.{IsSaved, IsSavingFault, lines_about, no_number}
-use Rattle.chi_watch_text.specs.Texts.{watched_text}
+use Rattle.chi_watch_text.specs.Written.{watched_text}
 use Rattle.chi_watch_text.specs.declared.fault.LinesFault.{LinesFault}
 use Rattle.chi_watch_text.specs.declared.line_format.LineFormat.{LineFormat}
 use Rattle.chi_watch_text.specs.declared.line_format.LineFormat.TheVariants.{Events}

@@ -4,7 +4,7 @@ use Rattle.std.specs.Io.KnownBytes.{Appends}
 use Rattle.chi_reading.specs.TraceText.{RecordedValue}
 use Rattle.chi_answer.specs.declared.answer.Answer.{Answer}
 use Rattle.chi_watch_text.specs.Outcomes.{IsWatched}
-use Rattle.chi_watch_text.specs.Texts.{watched_text}
+use Rattle.chi_watch_text.specs.Written.{watched_text}
 use Rattle.chi_watch_text.specs.declared.fault.LinesFault.TheVariants as lines_fault
 use Rattle.chi_watch_text.specs.declared.watched.Watched.{Watched}
 use Rattle.chi_check.specs.Check.{HasTrace, IsRight, judged}
@@ -14,7 +14,7 @@ use Rattle.chi_check.specs.Watch.{stopped_by, watch_status, watching}
 use Rattle.chi_check.specs.Written.{AnyCut}
 use Rattle.chi_check.specs.declared.fault.CheckFault.{CheckFault}
 use Rattle.chi_check.specs.declared.fault.CheckFault.TheVariants as check_fault
-use Rattle.chi_check.specs.declared.options.AnswerFormat.TheVariants.{Text}
+use Rattle.chi_answer.specs.declared.format.AnswerFormat.TheVariants.{Text}
 use Rattle.chi_check.specs.declared.options.CheckOptions.{CheckOptions}
 use Rattle.chi_check.specs.declared.options.WatchingOptions.{WatchingOptions}
 

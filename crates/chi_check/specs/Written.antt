@@ -9,8 +9,8 @@ use Rattle.chi_answer.specs.Texts.{IsText}
 use Rattle.chi_excerpt.specs.Failures.{failure_text}
 use Rattle.chi_page.specs.Answers.{answer_json}
 use Rattle.chi_verdict.specs.declared.first.Blame.{Blame}
-use Rattle.chi_check.specs.declared.options.AnswerFormat.{AnswerFormat}
-use Rattle.chi_check.specs.declared.options.AnswerFormat.TheVariants.{Text, Json}
+use Rattle.chi_answer.specs.declared.format.AnswerFormat.{AnswerFormat}
+use Rattle.chi_answer.specs.declared.format.AnswerFormat.TheVariants.{Text, Json}
 use Rattle.chi_check.specs.declared.options.CheckOptions.{CheckOptions}
 
 -- nothing is said of whether what follows the verdict was cut short

@@ -9,9 +9,10 @@ ghost use Rattle.chi_check.specs.Cover.{CoverOutcome, IsCoverPage, IsCoverPut, c
 use crate::check::put_page;
 use crate::fault::{CheckFault, SourceFault};
 use crate::inputs::{Counted, inputs_counted};
-use crate::options::{AnswerFormat, CoverOptions};
+use crate::options::CoverOptions;
 use crate::pages::Pages;
 use crate::sources::Sources;
+use chi_answer::AnswerFormat;
 use chi_cover::{Covered, add_json, add_page, add_refusals, add_table};
 use chi_script::write_bytes;
 use std::alloc::{AllocError, Global};

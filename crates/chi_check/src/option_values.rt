@@ -7,7 +7,8 @@ ghost use Rattle.clap.specs.Walk.{all_of, first_of, one_of, rows_of};
 ghost use Rattle.chi_check.specs.OptionValues.{HasCoverOptions, HasNoAddress, HasRequired, HasWatchOptions, IsAddress, IsAddressOrNone, answer_format, errors_asked, flits_asked, format_asked, has_other_effect, has_other_format, lacks_flits, lines_asked};
 ghost use Rattle.chi_program.specs.OptionValues.{IsNumberOr, IsNumberOrNone, has_word};
 
-use crate::options::{AnswerFormat, CheckOptions, CoverOptions, WatchingOptions};
+use crate::options::{CheckOptions, CoverOptions, WatchingOptions};
+use chi_answer::AnswerFormat;
 use chi_program::{has_word, is_switched, number_given, number_or, text_given};
 use chi_watch_text::{ErrorEffect, LineFormat, Required};
 use clap::ArgMatches;
@@ -195,6 +196,7 @@ pub(crate) fn watch_options<'a>(matches: &ArgMatches<'a>) -> WatchingOptions<'a>
 {
     WatchingOptions {
         format: format_asked(matches),
+        answer: answer_format(matches),
         budget: number_or(matches, "budget", BUDGET),
         keep_going: is_switched(matches, "keep-going"),
         required: required(matches),

@@ -1,13 +1,7 @@
 //! What a check, a watch and a count may be told.
 
+use chi_answer::AnswerFormat;
 use chi_watch_text::{LineFormat, Required};
-
-/// In which form an answer or counts are written: as lines of text, or as an object of JSON.
-#[derive(Clone, Copy, Debug)]
-pub enum AnswerFormat {
-    Text,
-    Json,
-}
 
 /// How a trace is checked. With `lines` the input is lines that tell this, and no trace. With `witness` the operations of a
 /// trace that is explained are written in the order found. `format` is the form in which the answer is written. `budget` is how
@@ -29,13 +23,14 @@ pub struct CheckOptions<'a> {
     pub html: Option<&'a str>,
 }
 
-/// How lines are watched. `format` is what they tell. `budget` is how many states are looked at for an answer. With `keep_going`
-/// a granule that no order explains does not end it. `required` changes nothing of what is found. `save` is the path of a file
+/// How lines are watched. `format` is what they tell, and `answer` in which form it is written what is found. `budget` is how many
+/// states are looked at for an answer. With `keep_going` a granule that no order explains does not end it. `required` changes nothing of what is found. `save` is the path of a file
 /// that is to be the lines that tell of the granule that is listed first, where one is listed that no order explains, or all
 /// flits up to there, and `html` that of one that is to be its page.
 #[derive(Clone, Copy)]
 pub struct WatchingOptions<'a> {
     pub format: LineFormat,
+    pub answer: AnswerFormat,
     pub budget: u64,
     pub keep_going: bool,
     pub required: Required,

@@ -9,10 +9,11 @@ use crate::check::reported;
 use crate::fault::CheckFault;
 use crate::meter::Meter;
 use crate::option_values::AROUND;
-use crate::options::{AnswerFormat, CheckOptions, WatchingOptions};
+use crate::options::{CheckOptions, WatchingOptions};
 use crate::pages::Pages;
 use crate::save::first_listed;
 use crate::watch::stopped_by;
+use chi_answer::AnswerFormat;
 use chi_watch_text::{LinesFault, WatchProgress, Watched, read_events};
 use std::alloc::Global;
 

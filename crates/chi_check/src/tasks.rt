@@ -92,11 +92,16 @@ const EXPLAIN: [NamedOption<'static>; 14] = [
 ];
 
 // The options of `watch`, and its file.
-const WATCH: [NamedOption<'static>; 12] = [
+const WATCH: [NamedOption<'static>; 13] = [
     FLITS,
     POINTS,
     ERRORS,
     BUDGET,
+    NamedOption {
+        name: "format",
+        takes: Takes::TextOr("FORMAT", "text"),
+        help: "json: writes a JSON object on a line for each granule, and one at the end",
+    },
     NamedOption {
         name: "save",
         takes: Takes::Text("FILE"),

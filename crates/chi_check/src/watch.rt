@@ -6,7 +6,7 @@ ghost use Rattle.chi_script.specs.WriterBytes.{AppendsFront};
 ghost use Rattle.chi_search.specs.Looks.{for_verdict};
 ghost use Rattle.chi_watch_text.specs.Outcomes.{IsOutcome, WentBy};
 ghost use Rattle.chi_watch_text.specs.Required.{is_nothing, missing_of};
-ghost use Rattle.chi_watch_text.specs.Texts.{found_text};
+ghost use Rattle.chi_watch_text.specs.Written.{found_text};
 ghost use Rattle.chi_check.specs.Check.{KeepsUnanswered};
 ghost use Rattle.chi_check.specs.CheckStatus.{IsAnswerStatus};
 ghost use Rattle.chi_check.specs.Saving.{SavesFirst};
@@ -34,6 +34,7 @@ fn watching(options: &WatchingOptions<'_>) -> WatchOptions
 {
     WatchOptions {
         format: options.format,
+        answer: options.answer,
         budget: options.budget,
         keep_going: options.keep_going,
         keep_lines: options.save.is_some() || options.html.is_some(),
@@ -90,9 +91,9 @@ fn watched<R: Read, W: Write, P: WatchProgress>(
     progress: &mut P,
 ) -> Result<Watched, Unfinished>
     ensures outcome { IfSome (R.remaining from.old) (λ input. IsOutcome options.now.format input options.now.keep_going result) }
-    ensures told { IfOk result (λ watched. Appends (W.contents to.old) (W.contents to.new) (flat_map found_text watched.found.items)) }
-    ensures kept { IfErr result (λ unfinished. unfinished.fault ≢ LinesFault.Write → Appends (W.contents to.old) (W.contents to.new) (flat_map found_text unfinished.found.items)) }
-    ensures begun { IfErr result (λ unfinished. AppendsFront (W.contents to.old) (W.contents to.new) (flat_map found_text unfinished.found.items)) }
+    ensures told { IfOk result (λ watched. Appends (W.contents to.old) (W.contents to.new) (flat_map (found_text options.now.answer) watched.found.items)) }
+    ensures kept { IfErr result (λ unfinished. unfinished.fault ≢ LinesFault.Write → Appends (W.contents to.old) (W.contents to.new) (flat_map (found_text options.now.answer) unfinished.found.items)) }
+    ensures begun { IfErr result (λ unfinished. AppendsFront (W.contents to.old) (W.contents to.new) (flat_map (found_text options.now.answer) unfinished.found.items)) }
     ensures undecided { IfOk result (WentBy (P.looked for_verdict) progress.old progress.new options.now.budget) }
     ensures keeps { IfOk result (λ watched. is_some watched.kept ≡ options.now.keep_lines) }
 {

@@ -5,8 +5,8 @@ ghost use Rattle.chi_answer.specs.Answers.{IsAnswer};
 ghost use Rattle.chi_answer.specs.CutShort.{cut_short_line};
 ghost use Rattle.chi_check.specs.Written.{IsLines, IsUsualText, IsWritten, blamed_text};
 
-use crate::options::{AnswerFormat, CheckOptions};
-use chi_answer::{Answer, add_cut_short, add_to_the_end, answer_text};
+use crate::options::CheckOptions;
+use chi_answer::{Answer, AnswerFormat, add_cut_short, add_to_the_end, answer_text};
 use chi_excerpt::failure_text;
 use chi_page::answer_json;
 use chi_reading::Recorded;

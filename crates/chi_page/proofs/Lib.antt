@@ -1,2 +1,2 @@
-mod Joined
+pub mod Joined
 mod Words

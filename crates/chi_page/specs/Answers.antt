@@ -64,16 +64,23 @@ stopped_json r around blame to_the_end cut_short =
     granule_members blame.granule ++ (stop_members blame.stop
     ++ (before_members blame.stop (last_operations r around (order_in r blame.granule blame.order.items)) to_the_end ++ cut_short_json cut_short))
 
+-- the word of a granule that was told at the end, and the words that it can hold
+unfoldable pub end_members : Option ℕ → Words → List ℕ
+end_members final_word words = codes ",\"at_end\":" ++ (told_json final_word ++ (codes ",\"words\":" ++ words_json words))
+
 -- a granule of which the word at the end is wrong, or that no order explains at a time that was not found
 unfoldable pub at_end_json : ℕ → Option ℕ → Words → Option ℕ → List ℕ
-at_end_json granule final_word words cut_short =
-    granule_members granule ++ (codes ",\"at_end\":" ++ (told_json final_word ++ (codes ",\"words\":" ++ (words_json words ++ cut_short_json cut_short))))
+at_end_json granule final_word words cut_short = granule_members granule ++ (end_members final_word words ++ cut_short_json cut_short)
 
--- a granule that was not decided
+-- a granule that was not decided: how many states were looked at, and the time up to which it is explained
+unfoldable pub undecided_members : ℕ → ℕ → Option ℕ → List ℕ
+undecided_members granule states explained =
+    codes "{\"answer\":\"undecided\",\"granule\":" ++ (granule_json granule ++ (codes ",\"states\":\"" ++ (decimal states ++ (codes "\",\"explained_to\":" ++ known_json explained))))
+
+-- the same with how many of its operations were open at one time
 unfoldable pub undecided_json : Doubt → Option ℕ → List ℕ
 undecided_json doubt cut_short =
-    codes "{\"answer\":\"undecided\",\"granule\":" ++ (granule_json doubt.granule ++ (codes ",\"states\":\"" ++ (decimal doubt.states ++ (codes "\",\"explained_to\":" ++ (known_json doubt.explained
-    ++ (codes ",\"open_at_most\":" ++ (decimal doubt.most_open ++ cut_short_json cut_short)))))))
+    undecided_members doubt.granule doubt.states doubt.explained ++ (codes ",\"open_at_most\":" ++ (decimal doubt.most_open ++ cut_short_json cut_short))
 
 -- an answer, with the order that explains a trace where a witness is asked for, and with so many operations of an order before the one
 -- that is blamed

@@ -4,3 +4,4 @@ pub mod Listed
 pub mod Objects
 pub mod Operations
 pub mod Pages
+pub mod Reaches

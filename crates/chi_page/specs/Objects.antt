@@ -8,14 +8,20 @@ use Rattle.chi_text.specs.Part.{address_text}
 use Rattle.chi_trace.specs.Explains.{at}
 use Rattle.chi_trace.specs.Fields.{request_in}
 use Rattle.chi_trace.specs.declared.operation.Operation.{Operation}
+use Rattle.chi_trace.specs.declared.request_fields.RequestFields.{RequestFields}
 use Rattle.chi_page.specs.Listed.{comma, listed}
 use Rattle.chi_page.specs.Operations.{end_json, endian_json, reply_json}
 
--- the number of its request in the text, whose it is, its opcode with its name, its size and its address in hex
-unfoldable pub request_members : Operation → List ℕ
-request_members op =
+-- the request of an operation
+abbrev pub fields_in : Operation → RequestFields
+fields_in op =
     let q = request_in op in
-    codes "\"request\":" ++ (decimal op.number ++ (codes ",\"src\":" ++ (decimal q.src ++ (codes ",\"txn\":" ++ (decimal q.txn ++ (codes ",\"op\":" ++ (decimal q.opcode
+    record { number = op.number; src = q.src; txn = q.txn; opcode = q.opcode; size = q.size; addr = q.addr; endian = q.endian; be = q.be; lanes = q.lanes }
+
+-- the number of a request in the text, whose it is, its opcode with its name, its size and its address in hex
+unfoldable pub request_members : RequestFields → List ℕ
+request_members q =
+    codes "\"request\":" ++ (decimal q.number ++ (codes ",\"src\":" ++ (decimal q.src ++ (codes ",\"txn\":" ++ (decimal q.txn ++ (codes ",\"op\":" ++ (decimal q.opcode
     ++ (codes ",\"name\":\"" ++ (opcode_name q.opcode ++ (codes "\",\"size\":" ++ (decimal q.size ++ (codes ",\"addr\":\"" ++ (address_text q.addr ++ codes "\"")))))))))))))
 
 -- its byte order, its byte enables and its data packet
@@ -29,7 +35,7 @@ observed_members op = codes ",\"start\":\"" ++ (decimal op.start ++ (codes "\",\
 
 -- all of it
 unfoldable pub object_json : Operation → List ℕ
-object_json op = codes "{" ++ (request_members op ++ (packet_members op.access ++ (observed_members op ++ codes "}")))
+object_json op = codes "{" ++ (request_members (fields_in op) ++ (packet_members op.access ++ (observed_members op ++ codes "}")))
 
 -- operations one after the other, and a list of them
 unfoldable pub each_object_json : List Operation → List ℕ

@@ -4,9 +4,8 @@ ghost use Rattle.std.specs.Prelude.{◌≡◌, ◌<◌, ◌++◌, All, IfOk, OnO
 ghost use Rattle.chi_answer.specs.Answers.{IsAnswer};
 ghost use Rattle.chi_page.specs.Answers.{answer_json, at_end_json, explained_json, undecided_json, witness_json};
 
-use crate::blame::add_words;
-use crate::granule::{add_granule, add_told};
-use crate::stopped::{add_cut_short, add_known, add_numbers, add_stopped, add_unexplained};
+use crate::reach::{add_end, add_undecided};
+use crate::stopped::{add_cut_short, add_numbers, add_stopped, add_unexplained};
 use chi_answer::Answer;
 use chi_reading::Recorded;
 use chi_search::Words;
@@ -64,29 +63,16 @@ fn add_at_end(
     ensures { OnOk result (to.new.items ≡ to.old.items ++ at_end_json granule final_word words.now cut_short) }
 {
     add_unexplained(to, granule)?;
-    add_parts(to, &[Text(",\"at_end\":")])?;
-    add_told(to, final_word)?;
-    add_parts(to, &[Text(",\"words\":")])?;
-    add_words(to, words)?;
+    add_end(to, final_word, words)?;
     add_cut_short(to, cut_short)
 }
 
 /// A granule that was not decided.
 #[tactic(auto, unfolding(crate::specs::Answers::undecided_json))]
-fn add_undecided(to: &mut Vec<u8>, doubt: &Doubt, cut_short: Option<u64>) -> Result<(), AllocError>
+fn add_doubt(to: &mut Vec<u8>, doubt: &Doubt, cut_short: Option<u64>) -> Result<(), AllocError>
     ensures { OnOk result (to.new.items ≡ to.old.items ++ undecided_json doubt.now cut_short) }
 {
-    add_parts(to, &[Text("{\"answer\":\"undecided\",\"granule\":")])?;
-    add_granule(to, doubt.granule)?;
-    add_parts(
-        to,
-        &[
-            Text(",\"states\":\""),
-            Number(doubt.states),
-            Text("\",\"explained_to\":"),
-        ],
-    )?;
-    add_known(to, doubt.explained)?;
+    add_undecided(to, doubt.granule, doubt.states, doubt.explained)?;
     add_parts(
         to,
         &[Text(",\"open_at_most\":"), Number(doubt.most_open as u64)],
@@ -130,7 +116,7 @@ pub fn answer_json(
             let final_word = recorded.final_words().get(*granule);
             add_at_end(&mut text, *granule, final_word, words, cut_short)?
         }
-        Answer::Undecided(doubt) => add_undecided(&mut text, doubt, cut_short)?,
+        Answer::Undecided(doubt) => add_doubt(&mut text, doubt, cut_short)?,
     }
     Ok(text)
 }

@@ -14,9 +14,13 @@ use chi_text::add_parts;
 use chi_trace::{Operation, apply_operation};
 use std::alloc::AllocError;
 
-/// What was found of a granule.
+/// What was found of a granule, as a JSON text.
+///
+/// ```
+/// add_finding(&mut text, Standing::Unexplained)?; // "not explained"
+/// ```
 #[tactic(auto, unfolding(crate::specs::Granules::finding_json))]
-fn add_finding(to: &mut Vec<u8>, finding: Standing) -> Result<(), AllocError>
+pub fn add_finding(to: &mut Vec<u8>, finding: Standing) -> Result<(), AllocError>
     ensures { OnOk result (to.new.items ≡ to.old.items ++ finding_json finding) }
 {
     match finding {

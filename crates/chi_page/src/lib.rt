@@ -1,4 +1,4 @@
-//! The page that shows a trace: its granules, their operations over time, and the order found of each; and an answer as
+//! The page that shows a trace: its granules, their operations over time, and the order found of each; and answers as
 //! JSON. Source: profile.
 #![tactic(auto)]
 
@@ -15,9 +15,15 @@ mod object;
 mod operation;
 mod page;
 mod page_script;
+mod reach;
+mod request;
 mod stopped;
 mod style;
 
 pub use answer::answer_json;
 pub use drawn::{Drawn, are_of_trace};
+pub use granule::add_finding;
+pub use listed::add_between;
 pub use page::add_page;
+pub use reach::{add_doubt_json, add_found_json};
+pub use request::add_request_members;

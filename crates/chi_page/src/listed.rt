@@ -8,11 +8,11 @@ use chi_text::add_parts;
 use std::alloc::AllocError;
 
 /// What stands before the text with this number, counted from 0: what stands between each two.
-pub(crate) fn add_between(
-    to: &mut Vec<u8>,
-    between: &'static str,
-    number: usize,
-) -> Result<(), AllocError>
+///
+/// ```
+/// add_between(&mut text, ",", number)?;
+/// ```
+pub fn add_between(to: &mut Vec<u8>, between: &'static str, number: usize) -> Result<(), AllocError>
     ensures { OnOk result (to.new.items ≡ to.old.items ++ before between.now number) }
 {
     if number == 0 {

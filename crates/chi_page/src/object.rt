@@ -1,42 +1,33 @@
 //! Operations as JSON objects, with the names that a trace has for their members.
 
 ghost use Rattle.std.specs.Prelude.{◌≡◌, ◌++◌, OnOk};
-ghost use Rattle.chi_page.specs.Objects.{each_object_json, each_reply_json, object_json, objects_json, observed_members, packet_members, replies_json, request_members};
+ghost use Rattle.chi_page.specs.Objects.{each_object_json, each_reply_json, fields_in, object_json, objects_json, observed_members, packet_members, replies_json};
 
 use crate::listed::add_between;
 use crate::operation::{add_end, add_endian, add_reply};
-use chi_fields::{Access, op_name};
+use crate::request::add_request_members;
+use chi_fields::Access;
 use chi_lanes::Reply;
-use chi_text::Part::{Address, Number, Packet, Text};
+use chi_text::Part::{Number, Packet, Text};
 use chi_text::add_parts;
-use chi_trace::Operation;
+use chi_trace::{Operation, RequestFields};
 use std::alloc::AllocError;
 
-/// The number of its request in the text, whose it is, its opcode, size and address.
-#[tactic(auto, unfolding(crate::specs::Objects::request_members))]
-fn add_request_members(to: &mut Vec<u8>, op: &Operation) -> Result<(), AllocError>
-    ensures { OnOk result (to.new.items ≡ to.old.items ++ request_members op.now) }
+/// The request of an operation.
+fn fields_in(op: &Operation) -> RequestFields
+    ensures { result ≡ fields_in op.now }
 {
-    add_parts(
-        to,
-        &[
-            Text("\"request\":"),
-            Number(op.number),
-            Text(",\"src\":"),
-            Number(u64::from(op.src)),
-            Text(",\"txn\":"),
-            Number(u64::from(op.txn)),
-            Text(",\"op\":"),
-            Number(u64::from(op.opcode())),
-            Text(",\"name\":\""),
-            Text(op_name(op.opcode())),
-            Text("\",\"size\":"),
-            Number(u64::from(op.size())),
-            Text(",\"addr\":\""),
-            Address(op.access.addr()),
-            Text("\""),
-        ],
-    )
+    RequestFields {
+        number: op.number,
+        src: op.src,
+        txn: op.txn,
+        opcode: op.opcode(),
+        size: op.size(),
+        addr: op.access.addr(),
+        endian: op.access.endian(),
+        be: op.access.enables(),
+        lanes: op.access.lanes(),
+    }
 }
 
 /// Its byte order, byte enables and data packet.
@@ -78,7 +69,7 @@ pub(crate) fn add_object(to: &mut Vec<u8>, op: &Operation) -> Result<(), AllocEr
     ensures { OnOk result (to.new.items ≡ to.old.items ++ object_json op.now) }
 {
     add_parts(to, &[Text("{")])?;
-    add_request_members(to, op)?;
+    add_request_members(to, &fields_in(op))?;
     add_packet_members(to, &op.access)?;
     add_observed_members(to, op)?;
     add_parts(to, &[Text("}")])

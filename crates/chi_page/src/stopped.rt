@@ -70,7 +70,7 @@ pub(crate) fn add_unexplained(to: &mut Vec<u8>, granule: u64) -> Result<(), Allo
 
 /// The operation that is blamed, and what is known of the granule at its end.
 #[tactic(auto, unfolding(crate::specs::Answers::stop_members))]
-fn add_stop(to: &mut Vec<u8>, stop: &Stop) -> Result<(), AllocError>
+pub(crate) fn add_stop(to: &mut Vec<u8>, stop: &Stop) -> Result<(), AllocError>
     ensures { OnOk result (to.new.items ≡ to.old.items ++ stop_members stop.now) }
 {
     add_parts(
@@ -92,7 +92,7 @@ fn add_stop(to: &mut Vec<u8>, stop: &Stop) -> Result<(), AllocError>
 
 /// The operations before it, those of an order up to the time before, and which responses would be legal.
 #[tactic(auto, unfolding(crate::specs::Answers::before_members))]
-fn add_before(
+pub(crate) fn add_before(
     to: &mut Vec<u8>,
     stop: &Stop,
     order: &[Operation],

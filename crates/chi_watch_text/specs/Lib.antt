@@ -11,6 +11,8 @@ pub mod Recorded
 pub mod Reading
 pub mod Required
 pub mod Saved
+pub mod Summaries
 pub mod Telling
 pub mod Texts
 pub mod Waiting
+pub mod Written

@@ -2,13 +2,12 @@
 use Rattle.std.specs.Prelude.{◌≡◌, ℕ, ◌++◌, List, Option, flat_map}
 use Rattle.std.specs.Io.KnownBytes.{Appends}
 use Rattle.chi_script.specs.WriterBytes.{AppendsFront}
-use Rattle.chi_watch_text.specs.Texts.{found_text}
 use Rattle.chi_watch_text.specs.declared.watched.FoundGranule.{FoundGranule}
 
--- the granules that were found more were told
-abbrev pub AreAllTold : List FoundGranule → List FoundGranule → Option (List ℕ) → Option (List ℕ) → Type 0
-AreAllTold before after old new = (more : List FoundGranule) × (after ≡ before ++ more) × Appends old new (flat_map found_text more)
+-- the granules that were found more were told, each by its text
+abbrev pub AreAllTold : (FoundGranule → List ℕ) → List FoundGranule → List FoundGranule → Option (List ℕ) → Option (List ℕ) → Type 0
+AreAllTold text before after old new = (more : List FoundGranule) × (after ≡ before ++ more) × Appends old new (flat_map text more)
 
 -- or a prefix of what is told of them
-abbrev pub AreSomeTold : List FoundGranule → List FoundGranule → Option (List ℕ) → Option (List ℕ) → Type 0
-AreSomeTold before after old new = (more : List FoundGranule) × (after ≡ before ++ more) × AppendsFront old new (flat_map found_text more)
+abbrev pub AreSomeTold : (FoundGranule → List ℕ) → List FoundGranule → List FoundGranule → Option (List ℕ) → Option (List ℕ) → Type 0
+AreSomeTold text before after old new = (more : List FoundGranule) × (after ≡ before ++ more) × AppendsFront old new (flat_map text more)

@@ -1,19 +1,16 @@
--- the text of what is found of events
-use Rattle.std.specs.Prelude.{ℕ, ◌==◌, ◌++◌, Bool, if◌then◌else◌, List, [], Option, None, Some, codes, decimal, flat_map}
+-- the lines of what is found of events
+use Rattle.std.specs.Prelude.{ℕ, ◌==◌, ◌++◌, Bool, if◌then◌else◌, List, [], None, codes, decimal, flat_map}
 use Rattle.chi_script.specs.Transcript.{request_text}
 use Rattle.chi_trace.specs.RequestFields.{request_of}
 use Rattle.chi_trace.specs.declared.request_fields.RequestFields.{RequestFields}
 use Rattle.chi_answer.specs.DoubtLines.{found_line}
 use Rattle.chi_answer.specs.Lines.{granule_line, undecided_line}
 use Rattle.chi_watch.specs.declared.counts.Counts.{Counts}
-use Rattle.chi_watch.specs.declared.ending.Ending.{Ending}
 use Rattle.chi_watch.specs.declared.ending.FoundAtEnd.{FoundAtEnd}
 use Rattle.chi_watch.specs.declared.undecided.UndecidedAtEnd.{UndecidedAtEnd}
-use Rattle.chi_watch_text.specs.FoundGranule.{is_found, verdict_of}
+use Rattle.chi_watch_text.specs.FoundGranule.{verdict_of}
 use Rattle.chi_answer.specs.CutShort.{cut_short_line}
 use Rattle.chi_watch_text.specs.ReachTexts.{reach_text}
-use Rattle.chi_watch_text.specs.Required.{missing_of}
-use Rattle.chi_watch_text.specs.declared.options.WatchOptions.{WatchOptions}
 use Rattle.chi_watch_text.specs.declared.required.Required.{Required}
 use Rattle.chi_watch_text.specs.declared.watched.FoundGranule.{FoundGranule}
 use Rattle.chi_watch_text.specs.declared.watched.Watched.{Watched}
@@ -24,27 +21,16 @@ use Rattle.chi_judge.specs.declared.standing.Standing.{Standing}
 use Rattle.chi_judge.specs.declared.standing.Standing.TheVariants.{Explained, Unexplained, Undecided}
 
 -- a granule, how far it can be explained, and the line by which it was found
-unfoldable pub found_text : FoundGranule → List ℕ
-found_text f = granule_line f.granule ++ (reach_text None f.reach ++ (cut_short_line f.cut_short ++ (codes "  at line " ++ decimal f.line ++ codes "\n")))
+unfoldable pub found_lines : FoundGranule → List ℕ
+found_lines f = granule_line f.granule ++ (reach_text None f.reach ++ (cut_short_line f.cut_short ++ (codes "  at line " ++ decimal f.line ++ codes "\n")))
 
--- one that is not explained at the end, where it was not found before
-unfoldable pub end_text : List FoundGranule → FoundAtEnd → List ℕ
-end_text found f = if is_found f.granule found then [] else granule_line f.granule ++ (reach_text f.final_word f.reach ++ (cut_short_line f.cut_short ++ codes "  at the end\n"))
+-- one that is not explained at the end
+unfoldable pub at_end_lines : FoundAtEnd → List ℕ
+at_end_lines f = granule_line f.granule ++ (reach_text f.final_word f.reach ++ (cut_short_line f.cut_short ++ codes "  at the end\n"))
 
 -- one that is not decided, and the time up to which it is explained, where one was found
-abbrev pub undecided_text : ℕ → UndecidedAtEnd → List ℕ
-undecided_text budget u = undecided_line u.granule budget ++ found_line u.explained
-
--- what is said at the end
-abbrev pub ending_text : ℕ → List FoundGranule → Option Ending → List ℕ
-ending_text budget found None = []
-ending_text budget found (Some ending) = flat_map (end_text found) ending.unexplained.items ++ flat_map (undecided_text budget) ending.undecided.items
-
--- that all is explained, or each granule that is found at the end, or is not decided then
-abbrev pub verdict_text : Standing → ℕ → Watched → List ℕ
-verdict_text Explained budget w = codes "explained\n"
-verdict_text Unexplained budget w = ending_text budget w.found.items w.ending
-verdict_text Undecided budget w = ending_text budget w.found.items w.ending
+abbrev pub undecided_lines : ℕ → UndecidedAtEnd → List ℕ
+undecided_lines budget u = undecided_line u.granule budget ++ found_line u.explained
 
 -- a request as a transcript has it, of any requester and transaction
 abbrev pub fields_text : RequestFields → List ℕ
@@ -98,10 +84,12 @@ abbrev pub missing_text : Required → Watched → List ℕ
 missing_text missing w =
     end_line missing.end ++ (operations_line missing.operations w.counts.ended ++ (quiet_line missing.quiet w.counts.outstanding ++ judged_line missing.judged w.unjudged))
 
--- what is said once all is watched
-abbrev pub closing_text : WatchOptions → Watched → List ℕ
-closing_text options w = verdict_text (verdict_of w) options.budget w ++ (counts_text w ++ missing_text (missing_of options.required w) w)
+-- that all is explained, where it is
+abbrev pub explained_text : Standing → List ℕ
+explained_text Explained = codes "explained\n"
+explained_text Unexplained = []
+explained_text Undecided = []
 
--- the whole text: the granules that were told when they were found, and what is said once all is watched
-abbrev pub watched_text : WatchOptions → Watched → List ℕ
-watched_text options w = flat_map found_text w.found.items ++ closing_text options w
+-- whether all is explained, how much was told, and what is required and does not hold
+abbrev pub summary_text : Watched → Required → List ℕ
+summary_text w missing = explained_text (verdict_of w) ++ (counts_text w ++ missing_text missing w)

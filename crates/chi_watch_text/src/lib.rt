@@ -4,6 +4,7 @@
 
 mod awaited_data;
 mod fault;
+mod granules_told;
 mod kept;
 mod line_format;
 mod line_stated;
@@ -18,15 +19,18 @@ mod reach_lines;
 mod reading;
 mod recorded;
 mod required;
+mod required_lines;
 mod saved;
 mod stated;
+mod summary_json;
+mod summary_lines;
 mod taking;
 mod telling;
-mod text;
 mod waiting;
 mod waiting_lines;
 mod watched;
 mod watching;
+mod written;
 
 pub use fault::{LinesFault, TellingFault};
 pub use line_format::{ErrorEffect, LineFormat};
@@ -36,7 +40,7 @@ pub use progress::WatchProgress;
 pub use recorded::read_events;
 pub use required::Required;
 pub use saved::lines_of_granule;
-pub use text::closing_text;
 pub use waiting::{Waiting, WaitsFor};
 pub use watched::{FoundGranule, Unfinished, Watched};
 pub use watching::watch_lines;
+pub use written::closing_text;

@@ -6,12 +6,14 @@ ghost use Rattle.chi_search.specs.Looks.{Grew, for_verdict};
 ghost use Rattle.chi_watch_text.specs.FoundGranule.{with_quiet};
 ghost use Rattle.chi_watch_text.specs.Outcomes.{AreReachedBy, IsSettled, IsStillFound};
 ghost use Rattle.chi_watch_text.specs.Telling.{AreAllTold, AreSomeTold};
+ghost use Rattle.chi_watch_text.specs.Written.{found_text};
 
 use crate::fault::LinesFault;
+use crate::options::WatchOptions;
 use crate::progress::WatchProgress;
 use crate::telling::tell;
-use crate::text::text_of_found;
 use crate::watched::{FoundGranule, is_found};
+use crate::written::found_text;
 use chi_watch::Watch;
 use std::alloc::{AllocError, Global};
 use std::io::Write;
@@ -69,29 +71,29 @@ fn judge_one<W: Write, P: WatchProgress>(
     it: Quiet,
     found: &mut Vec<FoundGranule>,
     to: &mut W,
-    budget: u64,
+    options: &WatchOptions,
     progress: &mut P,
 ) -> Result<(), LinesFault>
-    ensures told { IfOk result (λ _. AreAllTold found.old.items found.new.items (W.contents to.old) (W.contents to.new)) }
-    ensures kept { IfErr result (λ fault. fault ≢ LinesFault.Write → AreAllTold found.old.items found.new.items (W.contents to.old) (W.contents to.new)) }
-    ensures begun { AreSomeTold found.old.items found.new.items (W.contents to.old) (W.contents to.new) }
+    ensures told { IfOk result (λ _. AreAllTold (found_text options.now.answer) found.old.items found.new.items (W.contents to.old) (W.contents to.new)) }
+    ensures kept { IfErr result (λ fault. fault ≢ LinesFault.Write → AreAllTold (found_text options.now.answer) found.old.items found.new.items (W.contents to.old) (W.contents to.new)) }
+    ensures begun { AreSomeTold (found_text options.now.answer) found.old.items found.new.items (W.contents to.old) (W.contents to.new) }
     ensures fault { IfErr result (λ fault. (fault ≡ LinesFault.Memory) ⊎ (fault ≡ LinesFault.Write)) }
     ensures noted { IsSettled watch.now it found.old.items found.new.items }
-    ensures reached { IfOk result (λ _. AreReachedBy watch.now (P.looked for_verdict) progress.old progress.new budget found.old.items found.new.items) }
+    ensures reached { IfOk result (λ _. AreReachedBy watch.now (P.looked for_verdict) progress.old progress.new options.now.budget found.old.items found.new.items) }
     ensures looked { IfOk result (λ _. Grew (P.looked for_verdict) progress.old progress.new) }
 {
     if is_found(found, it.granule) {
         return Ok(());
     }
-    if watch.is_unexplained(alloc, it.granule, budget, progress)? {
-        let so_far = watch.reach(alloc, it.granule, budget, progress)?;
+    if watch.is_unexplained(alloc, it.granule, options.budget, progress)? {
+        let so_far = watch.reach(alloc, it.granule, options.budget, progress)?;
         let noted = FoundGranule {
             granule: it.granule,
             line: it.line,
             reach: so_far.reach,
             cut_short: so_far.cut_short,
         };
-        let text = text_of_found(alloc, &noted)?;
+        let text = found_text(alloc, options.answer, &noted)?;
         add(found, noted)?;
         tell(to, &text, progress)?;
     }
@@ -105,20 +107,20 @@ fn judge_each<W: Write, P: WatchProgress>(
     quiet: &[Quiet],
     found: &mut Vec<FoundGranule>,
     to: &mut W,
-    budget: u64,
+    options: &WatchOptions,
     progress: &mut P,
 ) -> Result<(), LinesFault>
-    ensures told { IfOk result (λ _. AreAllTold found.old.items found.new.items (W.contents to.old) (W.contents to.new)) }
-    ensures kept { IfErr result (λ fault. fault ≢ LinesFault.Write → AreAllTold found.old.items found.new.items (W.contents to.old) (W.contents to.new)) }
-    ensures begun { AreSomeTold found.old.items found.new.items (W.contents to.old) (W.contents to.new) }
+    ensures told { IfOk result (λ _. AreAllTold (found_text options.now.answer) found.old.items found.new.items (W.contents to.old) (W.contents to.new)) }
+    ensures kept { IfErr result (λ fault. fault ≢ LinesFault.Write → AreAllTold (found_text options.now.answer) found.old.items found.new.items (W.contents to.old) (W.contents to.new)) }
+    ensures begun { AreSomeTold (found_text options.now.answer) found.old.items found.new.items (W.contents to.old) (W.contents to.new) }
     ensures fault { IfErr result (λ fault. (fault ≡ LinesFault.Memory) ⊎ (fault ≡ LinesFault.Write)) }
     ensures each { All (IsStillFound watch.now quiet.now found.old.items) found.new.items }
-    ensures reached { IfOk result (λ _. AreReachedBy watch.now (P.looked for_verdict) progress.old progress.new budget found.old.items found.new.items) }
+    ensures reached { IfOk result (λ _. AreReachedBy watch.now (P.looked for_verdict) progress.old progress.new options.now.budget found.old.items found.new.items) }
     ensures once { IfOk result (λ _. AllPairs (λ a b. a.granule ≢ b.granule) found.old.items → AllPairs (λ a b. a.granule ≢ b.granule) found.new.items) }
     ensures looked { IfOk result (λ _. Grew (P.looked for_verdict) progress.old progress.new) }
 {
     for it in quiet {
-        judge_one(alloc, watch, *it, found, to, budget, progress)?;
+        judge_one(alloc, watch, *it, found, to, options, progress)?;
     }
     Ok(())
 }
@@ -131,24 +133,24 @@ pub(crate) fn judge_quiet<W: Write, P: WatchProgress>(
     quiet: &mut Vec<Quiet>,
     found: &mut Vec<FoundGranule>,
     to: &mut W,
-    budget: u64,
+    options: &WatchOptions,
     progress: &mut P,
 ) -> Result<(), LinesFault>
-    ensures told { IfOk result (λ _. AreAllTold found.old.items found.new.items (W.contents to.old) (W.contents to.new)) }
-    ensures kept { IfErr result (λ fault. fault ≢ LinesFault.Write → AreAllTold found.old.items found.new.items (W.contents to.old) (W.contents to.new)) }
-    ensures begun { AreSomeTold found.old.items found.new.items (W.contents to.old) (W.contents to.new) }
+    ensures told { IfOk result (λ _. AreAllTold (found_text options.now.answer) found.old.items found.new.items (W.contents to.old) (W.contents to.new)) }
+    ensures kept { IfErr result (λ fault. fault ≢ LinesFault.Write → AreAllTold (found_text options.now.answer) found.old.items found.new.items (W.contents to.old) (W.contents to.new)) }
+    ensures begun { AreSomeTold (found_text options.now.answer) found.old.items found.new.items (W.contents to.old) (W.contents to.new) }
     ensures fault { IfErr result (λ fault. (fault ≡ LinesFault.Memory) ⊎ (fault ≡ LinesFault.Write)) }
     ensures waits { is_past ≡ false → (found.new.items ≡ found.old.items) × (quiet.new.items ≡ quiet.old.items) }
     ensures cleared { IfOk result (λ _. is_past ≡ true → quiet.new.items ≡ []) }
     ensures each { is_past ≡ true → All (IsStillFound watch.now quiet.old.items found.old.items) found.new.items }
-    ensures reached { IfOk result (λ _. AreReachedBy watch.now (P.looked for_verdict) progress.old progress.new budget found.old.items found.new.items) }
+    ensures reached { IfOk result (λ _. AreReachedBy watch.now (P.looked for_verdict) progress.old progress.new options.now.budget found.old.items found.new.items) }
     ensures once { IfOk result (λ _. AllPairs (λ a b. a.granule ≢ b.granule) found.old.items → AllPairs (λ a b. a.granule ≢ b.granule) found.new.items) }
     ensures looked { IfOk result (λ _. Grew (P.looked for_verdict) progress.old progress.new) }
 {
     if !is_past {
         return Ok(());
     }
-    judge_each(alloc, watch, quiet, found, to, budget, progress)?;
+    judge_each(alloc, watch, quiet, found, to, options, progress)?;
     quiet.clear();
     Ok(())
 }

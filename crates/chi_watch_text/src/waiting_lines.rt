@@ -11,7 +11,7 @@ use chi_trace::RequestFields;
 use std::alloc::AllocError;
 
 /// What a request waits for.
-fn waits_name(waits_for: WaitsFor) -> &'static str
+pub(crate) fn waits_name(waits_for: WaitsFor) -> &'static str
     ensures { result.now ≡ waits_text waits_for }
 {
     match waits_for {

@@ -14,8 +14,8 @@ ghost use Rattle.chi_watch.specs.Reaching.{IsReachedBy};
 ghost use Rattle.chi_watch_text.specs.Outcomes.{IsFoundBy, IsOutcome, IsStillFound, IsTold, IsWatched, IsWatchingFault, ReachedBy, SaysAtEnd, WentAsFar, WentBy};
 ghost use Rattle.chi_watch_text.specs.Reading.{IsRefusedLater};
 ghost use Rattle.chi_watch_text.specs.Telling.{AreAllTold, AreSomeTold};
-ghost use Rattle.chi_watch_text.specs.Texts.{found_text};
 ghost use Rattle.chi_watch_text.specs.Waiting.{first_waiting};
+ghost use Rattle.chi_watch_text.specs.Written.{found_text};
 
 use crate::fault::LinesFault;
 use crate::kept::nothing_kept;
@@ -97,16 +97,16 @@ fn refused<W: Write, P: WatchProgress>(
     quiet: &mut Vec<Quiet>,
     found: &mut Vec<FoundGranule>,
     to: &mut W,
-    budget: u64,
+    options: &WatchOptions,
     progress: &mut P,
 ) -> LinesFault
     ensures fault { (result ≡ fault) ⊎ ((result ≡ LinesFault.Memory) ⊎ (result ≡ LinesFault.Write)) }
-    ensures kept { result ≢ LinesFault.Write → AreAllTold found.old.items found.new.items (W.contents to.old) (W.contents to.new) }
-    ensures begun { AreSomeTold found.old.items found.new.items (W.contents to.old) (W.contents to.new) }
+    ensures kept { result ≢ LinesFault.Write → AreAllTold (found_text options.now.answer) found.old.items found.new.items (W.contents to.old) (W.contents to.new) }
+    ensures begun { AreSomeTold (found_text options.now.answer) found.old.items found.new.items (W.contents to.old) (W.contents to.new) }
     ensures found { (found.new.items ≡ found.old.items) ⊎ (IsRefusedLater reading.now fault time × All (IsStillFound watch.now quiet.old.items found.old.items) found.new.items) }
 {
     let is_past = is_refused_later(alloc, reading, fault, is_whole, time);
-    match judge_quiet(alloc, watch, is_past, quiet, found, to, budget, progress) {
+    match judge_quiet(alloc, watch, is_past, quiet, found, to, options, progress) {
         Ok(()) => fault,
         Err(fault) => fault,
     }
@@ -187,9 +187,9 @@ fn watch_each<R: BufRead, W: Write, P: WatchProgress>(
     requires none { found.old.items ≡ [] }
     ensures watched { IfSome (R.remaining from.old) (λ text. IfOk result (IsWatched options.now.format text options.now.keep_going)) }
     ensures fault { IfSome (R.remaining from.old) (λ text. IfErr result (IsWatchingFault options.now.format text)) }
-    ensures told { IfOk result (λ watched. Appends (W.contents to.old) (W.contents to.new) (flat_map found_text watched.found.items)) }
-    ensures kept { IfErr result (λ fault. fault ≢ LinesFault.Write → Appends (W.contents to.old) (W.contents to.new) (flat_map found_text found.new.items)) }
-    ensures begun { IfErr result (λ _. AppendsFront (W.contents to.old) (W.contents to.new) (flat_map found_text found.new.items)) }
+    ensures told { IfOk result (λ watched. Appends (W.contents to.old) (W.contents to.new) (flat_map (found_text options.now.answer) watched.found.items)) }
+    ensures kept { IfErr result (λ fault. fault ≢ LinesFault.Write → Appends (W.contents to.old) (W.contents to.new) (flat_map (found_text options.now.answer) found.new.items)) }
+    ensures begun { IfErr result (λ _. AppendsFront (W.contents to.old) (W.contents to.new) (flat_map (found_text options.now.answer) found.new.items)) }
     ensures found { IfSome (R.remaining from.old) (λ text. IfErr result (λ _. All (IsFoundBy options.now.format text) found.new.items)) }
     ensures keeps { IfOk result (λ watched. is_some watched.kept ≡ options.now.keep_lines) }
     ensures undecided { IfOk result (WentBy (P.looked for_verdict) progress.old progress.new options.now.budget) }
@@ -207,30 +207,14 @@ fn watch_each<R: BufRead, W: Write, P: WatchProgress>(
             Ok(next) => next,
             Err(fault) => {
                 return Err(refused(
-                    alloc,
-                    &watch,
-                    &reading,
-                    fault,
-                    is_whole,
-                    time,
-                    &mut quiet,
-                    found,
-                    to,
-                    options.budget,
+                    alloc, &watch, &reading, fault, is_whole, time, &mut quiet, found, to, options,
                     progress,
                 ));
             }
         };
         let is_past = is_past(is_whole, time, &next);
         judge_quiet(
-            alloc,
-            &watch,
-            is_past,
-            &mut quiet,
-            found,
-            to,
-            options.budget,
-            progress,
+            alloc, &watch, is_past, &mut quiet, found, to, options, progress,
         )?;
         if stops(is_past, found, options.keep_going) {
             return Ok(stopped(alloc, &watch, found, is_ended, kept));
@@ -286,10 +270,10 @@ pub fn watch_lines<R: BufRead, W: Write, P: WatchProgress>(
     progress: &mut P,
 ) -> Result<Watched, Unfinished>
     ensures outcome { IfSome (R.remaining from.old) (λ text. IsOutcome options.now.format text options.now.keep_going result) }
-    ensures told { IfOk result (λ watched. Appends (W.contents to.old) (W.contents to.new) (flat_map found_text watched.found.items)) }
-    ensures kept { IfErr result (λ unfinished. unfinished.fault ≢ LinesFault.Write → Appends (W.contents to.old) (W.contents to.new) (flat_map found_text unfinished.found.items)) }
+    ensures told { IfOk result (λ watched. Appends (W.contents to.old) (W.contents to.new) (flat_map (found_text options.now.answer) watched.found.items)) }
+    ensures kept { IfErr result (λ unfinished. unfinished.fault ≢ LinesFault.Write → Appends (W.contents to.old) (W.contents to.new) (flat_map (found_text options.now.answer) unfinished.found.items)) }
     ensures keeps { IfOk result (λ watched. is_some watched.kept ≡ options.now.keep_lines) }
-    ensures begun { IfErr result (λ unfinished. AppendsFront (W.contents to.old) (W.contents to.new) (flat_map found_text unfinished.found.items)) }
+    ensures begun { IfErr result (λ unfinished. AppendsFront (W.contents to.old) (W.contents to.new) (flat_map (found_text options.now.answer) unfinished.found.items)) }
     ensures undecided { IfOk result (WentBy (P.looked for_verdict) progress.old progress.new options.now.budget) }
     ensures far { IfSome (R.remaining from.old) (λ text. IfOk result (WentAsFar (P.looked for_verdict) progress.old progress.new options.now.budget options.now.format text)) }
     ensures reached { IfOk result (ReachedBy (P.looked for_verdict) progress.old progress.new options.now.budget) }

@@ -1,5 +1,6 @@
 //! Texts of events, and what is found by their lines.
 
+use chi_answer::AnswerFormat;
 use chi_search::NoProgress;
 use chi_watch_text::{
     LineFormat, LinesFault, Required, Unfinished, WatchOptions, Watched, closing_text, watch_lines,
@@ -125,6 +126,7 @@ pub(crate) const ALL: Required = Required {
 /// It stops at the first line by which a granule is found, or it keeps going.
 pub(crate) const STOPPING: WatchOptions = WatchOptions {
     format: LineFormat::Events,
+    answer: AnswerFormat::Text,
     budget: 1_000_000,
     keep_going: false,
     keep_lines: false,
@@ -133,6 +135,7 @@ pub(crate) const STOPPING: WatchOptions = WatchOptions {
 
 pub(crate) const GOING: WatchOptions = WatchOptions {
     format: LineFormat::Events,
+    answer: AnswerFormat::Text,
     budget: 1_000_000,
     keep_going: true,
     keep_lines: false,

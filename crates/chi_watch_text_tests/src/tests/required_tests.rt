@@ -1,8 +1,8 @@
 //! What is required, and what of it is missing.
 
 use crate::tests::comparison::assert_same;
-use crate::tests::events::{ALL, END, FIVE, NOTHING, READ, UNKNOWN, WRITE, watched};
-use chi_watch_text::{LineFormat, Required, WatchOptions};
+use crate::tests::events::{ALL, END, FIVE, NOTHING, READ, STOPPING, UNKNOWN, WRITE, watched};
+use chi_watch_text::{Required, WatchOptions};
 use std::test::Fail;
 
 // Lines, and what of all that can be required is missing.
@@ -59,11 +59,8 @@ static MISSING: [(&[&str], Required); 7] = [
 #[test]
 fn what_is_missing(rt: HostRuntime) -> Result<(), Fail> {
     let options = WatchOptions {
-        format: LineFormat::Events,
-        budget: 1_000_000,
-        keep_going: false,
-        keep_lines: false,
         required: ALL,
+        ..STOPPING
     };
     for (texts, missing) in &MISSING {
         let watched = watched(rt.alloc(), texts, &options)?;

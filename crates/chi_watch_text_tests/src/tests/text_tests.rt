@@ -2,11 +2,16 @@
 
 use crate::tests::comparison::assert_same;
 use crate::tests::events::{
-    ALL, FIVE, GOING, LAST, NINE_AND_FIVE, NOTHING, READ, STOPPING, UNKNOWN, WRITE, ZERO, answer,
+    ALL, FIVE, GOING, LAST, NINE_AND_FIVE, READ, STOPPING, UNKNOWN, WRITE, ZERO, answer,
 };
+use chi_answer::AnswerFormat;
 use chi_judge::Reach;
+use chi_trace::RequestFields;
 use chi_watch::{Counts, Ending, FoundAtEnd, UndecidedAtEnd};
-use chi_watch_text::{FoundGranule, LineFormat, Required, WatchOptions, Watched, closing_text};
+use chi_watch_text::{
+    FoundGranule, Required, Waiting, WaitsFor, WatchOptions, Watched, closing_text,
+};
+use std::alloc::{AllocError, Global};
 use std::process::Abort;
 use std::test::Fail;
 
@@ -102,13 +107,7 @@ at the end: 0800000000000000
 // could hold at the end.
 #[test]
 fn no_budget(rt: HostRuntime) -> Result<(), Fail> {
-    let options = WatchOptions {
-        format: LineFormat::Events,
-        budget: 0,
-        keep_going: true,
-        keep_lines: false,
-        required: NOTHING,
-    };
+    let options = WatchOptions { budget: 0, ..GOING };
     let found = "not explained: granule 0000000000001010
   at the end
 undecided: granule 0000000000001000 after 0 states
@@ -131,16 +130,16 @@ fn undecided(granule: u64, explained: Option<u64>) -> UndecidedAtEnd {
     UndecidedAtEnd { granule, explained }
 }
 
-// A granule that was found by a line is not told of at the end. The address of the granule 2^52 / 8 - 1 is 2^52 - 8.
-#[test]
-fn all_there_is_to_tell(rt: HostRuntime) -> Result<(), Fail> {
+// What is found where there is all that can be told: a granule by a line, others at the end, and some that are not decided. The
+// address of the granule 2^52 / 8 - 1 is 2^52 - 8.
+fn all_found(alloc: Global) -> Result<Watched, AllocError> {
     let found = FoundGranule {
         granule: 513,
         line: 18446744073709551614,
         reach: Reach::Undecided,
         cut_short: None,
     };
-    let mut unexplained = Vec::new(rt.alloc());
+    let mut unexplained = Vec::new(alloc);
     unexplained.push(FoundAtEnd {
         cut_short: Some(100_400),
         ..at_end(0)
@@ -148,11 +147,11 @@ fn all_there_is_to_tell(rt: HostRuntime) -> Result<(), Fail> {
     unexplained.push(at_end(513))?;
     let ending = Ending {
         unexplained,
-        undecided: vec![in rt.alloc(); undecided(512, Some(30)), undecided(562949953421311, None)]?,
+        undecided: vec![in alloc; undecided(512, Some(30)), undecided(562949953421311, None)]?,
     };
-    let mut by_line = Vec::new(rt.alloc());
+    let mut by_line = Vec::new(alloc);
     by_line.push(found)?;
-    let watched = Watched {
+    Ok(Watched {
         found: by_line,
         ending: Some(ending),
         counts: Counts {
@@ -160,20 +159,24 @@ fn all_there_is_to_tell(rt: HostRuntime) -> Result<(), Fail> {
             outstanding: 20,
             granules: 300,
         },
-        waiting: Vec::new(rt.alloc()),
+        waiting: Vec::new(alloc),
         unjudged: 4,
         is_ended: false,
         kept: None,
-    };
+    })
+}
+
+// A granule that was found by a line is not told of at the end.
+#[test]
+fn all_there_is_to_tell(rt: HostRuntime) -> Result<(), Fail> {
+    let watched = all_found(rt.alloc())?;
     let options = WatchOptions {
-        format: LineFormat::Events,
         budget: 70,
-        keep_going: true,
-        keep_lines: false,
         required: Required {
             operations: 1001,
             ..ALL
         },
+        ..GOING
     };
     let text = String::from_utf8(closing_text(rt.alloc(), &watched, &options)?)?;
     assert_same(
@@ -193,6 +196,55 @@ required: the last line tells the end
 required: at least 1001 operations ended, and 1000 did
 required: no request is outstanding, and 20 are
 required: each granule is judged, and 4 are not
+",
+    );
+    Ok(())
+}
+
+// A request that is outstanding since 7, which line 3 told.
+fn waiting(waits_for: WaitsFor) -> Waiting {
+    Waiting {
+        fields: RequestFields {
+            number: 3,
+            src: 1,
+            txn: 258,
+            opcode: 0x39,
+            size: 3,
+            addr: 4100,
+            endian: false,
+            be: 240,
+            lanes: [0; 16],
+        },
+        since: 7,
+        waits_for,
+    }
+}
+
+// The same as JSON, an object on each line.
+#[test]
+fn all_there_is_to_tell_as_json(rt: HostRuntime) -> Result<(), Fail> {
+    let found = all_found(rt.alloc())?;
+    let watched = Watched {
+        waiting: vec![in rt.alloc(); waiting(WaitsFor::Dbid), waiting(WaitsFor::Reply)]?,
+        ..found
+    };
+    let options = WatchOptions {
+        answer: AnswerFormat::Json,
+        budget: 70,
+        required: Required {
+            judged: false,
+            ..ALL
+        },
+        ..GOING
+    };
+    let text = String::from_utf8(closing_text(rt.alloc(), &watched, &options)?)?;
+    assert_same(
+        &rt,
+        text.as_str(),
+        "{\"answer\":\"not explained\",\"granule\":\"0000000000000000\",\"line\":null,\"at_end\":null,\"words\":null,\"cut_short\":\"100400\"}
+{\"answer\":\"undecided\",\"granule\":\"0000000000001000\",\"states\":\"70\",\"explained_to\":\"30\"}
+{\"answer\":\"undecided\",\"granule\":\"000ffffffffffff8\",\"states\":\"70\",\"explained_to\":null}
+{\"answer\":\"not explained\",\"operations\":\"1000\",\"outstanding\":\"20\",\"waiting\":[{\"request\":3,\"src\":1,\"txn\":258,\"op\":57,\"name\":\"AtomicCompare\",\"size\":3,\"addr\":\"0000000000001004\",\"start\":\"7\",\"waits_for\":\"DBID\"},{\"request\":3,\"src\":1,\"txn\":258,\"op\":57,\"name\":\"AtomicCompare\",\"size\":3,\"addr\":\"0000000000001004\",\"start\":\"7\",\"waits_for\":\"reply\"}],\"granules\":\"300\",\"not_judged\":\"4\",\"missing\":{\"end\":true,\"operations\":false,\"quiet\":true,\"judged\":false}}
 ",
     );
     Ok(())

@@ -6,6 +6,7 @@ use Rattle.chi_search.proofs.Growing.{at_least_after, at_least_before, some_afte
 use Rattle.chi_watch.proofs.Reached.{reached_wider}
 use Rattle.chi_watch.specs.Reaching.{IsReachedBy}
 use Rattle.chi_watch_text.specs.Telling.{AreAllTold}
+use Rattle.chi_watch_text.specs.Written.{found_text}
 use Rattle.chi_watch_text.specs.declared.watched.FoundGranule.{FoundGranule}
 use Rattle.chi_watch_text.proofs.ToldTexts.{all_some, none_told}
 use Rattle.chi_watch_text.proofs.quiet.judge_one.Goals as goal
@@ -39,7 +40,7 @@ returns-in_ok-tell-clause-reached g c events has =
     let new = c.reach.new.progress in
     let last = c.tell.new.progress in
     let found = c.args.found.now.items in
-    let budget = c.args.budget in
+    let budget = c.args.options.now.budget in
     let so_far = c.in_ok-so_far.so_far in
     let more = λ (f : FoundGranule). Contains found f ⊎ IsReachedBy looked old last budget f.reach f.cut_short in
     let not = c.in_ok-is_unexplained.ensures.found c.if-branch.true events has in
@@ -63,5 +64,6 @@ pub returns-in_err-add-clause-begun : goal.returns-in_err-add-clause-begun
 returns-in_err-add-clause-begun g c =
     let written = g.W.Write.contents c.args.to.now in
     let found = c.args.found.now.items in
-    all_some found c.add.new.found.items written written
-    (subst (λ (l : List FoundGranule). AreAllTold found l written written) (sym c.in_err-add.ensures.kept) (none_told found written))
+    let text = found_text c.args.options.now.answer in
+    all_some text found c.add.new.found.items written written
+    (subst (λ (l : List FoundGranule). AreAllTold text found l written written) (sym c.in_err-add.ensures.kept) (none_told text found written))

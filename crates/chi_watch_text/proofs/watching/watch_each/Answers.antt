@@ -12,7 +12,7 @@ use Rattle.chi_watch_text.specs.Kept.{KeepsLine}
 use Rattle.chi_watch.specs.Reaching.{IsReachedBy}
 use Rattle.chi_watch_text.specs.Outcomes.{AreAsFar, HasTakenLines, IsFoundBy, IsLinesFault, IsWatched, IsWatchingFault}
 use Rattle.chi_watch_text.specs.Reading.{BeginsWith, GivesNext}
-use Rattle.chi_watch_text.specs.Texts.{found_text}
+use Rattle.chi_watch_text.specs.Written.{found_text}
 use Rattle.chi_watch_text.specs.declared.fault.LinesFault.{LinesFault}
 use Rattle.chi_watch_text.specs.declared.fault.LinesFault.TheVariants as fault
 use Rattle.chi_watch_text.specs.declared.line_format.LineFormat.{LineFormat}
@@ -35,7 +35,7 @@ loop-init g c = record {
   told = ([], ([], c.requires.untold));
   reached = subst (All (λ (f : FoundGranule). IsReachedBy (g.P.Progress.looked for_verdict) c.args.progress.now c.args.progress.now c.args.options.now.budget f.reach f.cut_short)) (sym c.requires.none)
       (All-nil (λ (f : FoundGranule). IsReachedBy (g.P.Progress.looked for_verdict) c.args.progress.now c.args.progress.now c.args.options.now.budget f.reach f.cut_short));
-  written = subst (λ (l : List FoundGranule). Appends (g.W.Write.contents c.args.to.now) (g.W.Write.contents c.args.to.now) (flat_map found_text l)) (sym c.requires.none) (nothing_written (g.W.Write.contents c.args.to.now));
+  written = subst (λ (l : List FoundGranule). Appends (g.W.Write.contents c.args.to.now) (g.W.Write.contents c.args.to.now) (flat_map (found_text c.args.options.now.answer) l)) (sym c.requires.none) (nothing_written (g.W.Write.contents c.args.to.now));
   first = λ stop. c.requires.none;
   looked = looked_none (g.P.Progress.looked for_verdict) c.args.progress.now;
   kept = none_kept (g.R.Read.remaining c.args.from.now) c.nothing_kept-kept.result c.nothing_kept-kept.ensures.empty;
@@ -78,7 +78,7 @@ loop-preserved g c =
       told = (before.told.0 ++ c.in-Some.event ∷ [], c.in_ok-take_line.ensures.taken.takes.taken before.told.0 before.told.1);
       reached = reached_all c.loop.watch (g.P.Progress.looked for_verdict) c.args.progress.now c.loop.progress c.judge_quiet.new.progress c.take_line.new.progress c.args.options.now.budget
           c.loop.found.items c.judge_quiet.new.found.items before.looked c.in_ok-judge_quiet.ensures.looked c.in_ok-take_line.ensures.looked before.told.0 before.told.1 c.in_ok-judge_quiet.ensures.reached before.reached;
-      written = told_more c.loop.found.items c.judge_quiet.new.found.items (g.W.Write.contents c.args.to.now) (g.W.Write.contents c.loop.to) (g.W.Write.contents c.judge_quiet.new.to) before.written c.in_ok-judge_quiet.ensures.told;
+      written = told_more (found_text c.args.options.now.answer) c.loop.found.items c.judge_quiet.new.found.items (g.W.Write.contents c.args.to.now) (g.W.Write.contents c.loop.to) (g.W.Write.contents c.judge_quiet.new.to) before.written c.in_ok-judge_quiet.ensures.told;
       first = first;
       looked = some_after (g.P.Progress.looked for_verdict) c.args.progress.now c.judge_quiet.new.progress c.take_line.new.progress some c.in_ok-take_line.ensures.looked;
       kept = lines_kept_more (g.R.Read.remaining c.args.from.now) (g.R.Read.remaining c.loop.from) (g.R.Read.remaining c.next_event.new.from) c.loop.kept c.take_line.new.kept c.next_event.new.self.lines.items before.kept
@@ -212,7 +212,7 @@ returns-in_err-take_line-clause-found g c =
 
 pub returns-in-Err-clause-begun : goal.returns-in-Err-clause-begun
 returns-in-Err-clause-begun g c =
-    begun_more c.loop.found.items c.refused.new.found.items (g.W.Write.contents c.args.to.now) (g.W.Write.contents c.loop.to) (g.W.Write.contents c.refused.new.to) c.loop.invariant.written c.refused.ensures.begun
+    begun_more (found_text c.args.options.now.answer) c.loop.found.items c.refused.new.found.items (g.W.Write.contents c.args.to.now) (g.W.Write.contents c.loop.to) (g.W.Write.contents c.refused.new.to) c.loop.invariant.written c.refused.ensures.begun
 
 pub returns-in_err-judge_quiet-clause-fault : goal.returns-in_err-judge_quiet-clause-fault
 returns-in_err-judge_quiet-clause-fault g c =
@@ -221,34 +221,34 @@ returns-in_err-judge_quiet-clause-fault g c =
 
 pub returns-in_err-judge_quiet-clause-kept : goal.returns-in_err-judge_quiet-clause-kept
 returns-in_err-judge_quiet-clause-kept g c =
-    passed_on c.from_residual.result c.in_err-judge_quiet.field-0.0 (λ (r : Result Watched LinesFault). IfErr r (λ x. (x ≡ fault.Write → ⊥) → Appends (g.W.Write.contents c.args.to.now) (g.W.Write.contents c.judge_quiet.new.to) (flat_map found_text c.judge_quiet.new.found.items)))
-    c.from_residual.ensures.1 (λ not. told_more c.loop.found.items c.judge_quiet.new.found.items (g.W.Write.contents c.args.to.now) (g.W.Write.contents c.loop.to) (g.W.Write.contents c.judge_quiet.new.to) c.loop.invariant.written (c.in_err-judge_quiet.ensures.kept not))
+    passed_on c.from_residual.result c.in_err-judge_quiet.field-0.0 (λ (r : Result Watched LinesFault). IfErr r (λ x. (x ≡ fault.Write → ⊥) → Appends (g.W.Write.contents c.args.to.now) (g.W.Write.contents c.judge_quiet.new.to) (flat_map (found_text c.args.options.now.answer) c.judge_quiet.new.found.items)))
+    c.from_residual.ensures.1 (λ not. told_more (found_text c.args.options.now.answer) c.loop.found.items c.judge_quiet.new.found.items (g.W.Write.contents c.args.to.now) (g.W.Write.contents c.loop.to) (g.W.Write.contents c.judge_quiet.new.to) c.loop.invariant.written (c.in_err-judge_quiet.ensures.kept not))
 
 pub returns-in_err-judge_quiet-clause-begun : goal.returns-in_err-judge_quiet-clause-begun
 returns-in_err-judge_quiet-clause-begun g c =
-    at_fault c.from_residual.result (AppendsFront (g.W.Write.contents c.args.to.now) (g.W.Write.contents c.judge_quiet.new.to) (flat_map found_text c.judge_quiet.new.found.items))
-    (begun_more c.loop.found.items c.judge_quiet.new.found.items (g.W.Write.contents c.args.to.now) (g.W.Write.contents c.loop.to) (g.W.Write.contents c.judge_quiet.new.to) c.loop.invariant.written c.judge_quiet.ensures.begun)
+    at_fault c.from_residual.result (AppendsFront (g.W.Write.contents c.args.to.now) (g.W.Write.contents c.judge_quiet.new.to) (flat_map (found_text c.args.options.now.answer) c.judge_quiet.new.found.items))
+    (begun_more (found_text c.args.options.now.answer) c.loop.found.items c.judge_quiet.new.found.items (g.W.Write.contents c.args.to.now) (g.W.Write.contents c.loop.to) (g.W.Write.contents c.judge_quiet.new.to) c.loop.invariant.written c.judge_quiet.ensures.begun)
 
 pub returns-in_err-ended-clause-begun : goal.returns-in_err-ended-clause-begun
 returns-in_err-ended-clause-begun g c =
-    at_fault c.from_residual-in_err-ended.result (AppendsFront (g.W.Write.contents c.args.to.now) (g.W.Write.contents c.judge_quiet.new.to) (flat_map found_text c.ended.new.found.items))
-    (subst (λ (l : List FoundGranule). AppendsFront (g.W.Write.contents c.args.to.now) (g.W.Write.contents c.judge_quiet.new.to) (flat_map found_text l)) (sym c.in_err-ended.ensures.kept)
-    (begun_more c.loop.found.items c.judge_quiet.new.found.items (g.W.Write.contents c.args.to.now) (g.W.Write.contents c.loop.to) (g.W.Write.contents c.judge_quiet.new.to) c.loop.invariant.written c.judge_quiet.ensures.begun))
+    at_fault c.from_residual-in_err-ended.result (AppendsFront (g.W.Write.contents c.args.to.now) (g.W.Write.contents c.judge_quiet.new.to) (flat_map (found_text c.args.options.now.answer) c.ended.new.found.items))
+    (subst (λ (l : List FoundGranule). AppendsFront (g.W.Write.contents c.args.to.now) (g.W.Write.contents c.judge_quiet.new.to) (flat_map (found_text c.args.options.now.answer) l)) (sym c.in_err-ended.ensures.kept)
+    (begun_more (found_text c.args.options.now.answer) c.loop.found.items c.judge_quiet.new.found.items (g.W.Write.contents c.args.to.now) (g.W.Write.contents c.loop.to) (g.W.Write.contents c.judge_quiet.new.to) c.loop.invariant.written c.judge_quiet.ensures.begun))
 
 pub returns-in_default-clause-told : goal.returns-in_default-clause-told
 returns-in_default-clause-told g c =
-    subst (λ (l : List FoundGranule). Appends (g.W.Write.contents c.args.to.now) (g.W.Write.contents c.judge_quiet.new.to) (flat_map found_text l)) (sym c.in_ok-ended.ensures.told.found_is)
-    (told_more c.loop.found.items c.judge_quiet.new.found.items (g.W.Write.contents c.args.to.now) (g.W.Write.contents c.loop.to) (g.W.Write.contents c.judge_quiet.new.to) c.loop.invariant.written c.in_ok-judge_quiet.ensures.told)
+    subst (λ (l : List FoundGranule). Appends (g.W.Write.contents c.args.to.now) (g.W.Write.contents c.judge_quiet.new.to) (flat_map (found_text c.args.options.now.answer) l)) (sym c.in_ok-ended.ensures.told.found_is)
+    (told_more (found_text c.args.options.now.answer) c.loop.found.items c.judge_quiet.new.found.items (g.W.Write.contents c.args.to.now) (g.W.Write.contents c.loop.to) (g.W.Write.contents c.judge_quiet.new.to) c.loop.invariant.written c.in_ok-judge_quiet.ensures.told)
 
 pub returns-in_err-take_line-clause-kept : goal.returns-in_err-take_line-clause-kept
 returns-in_err-take_line-clause-kept g c =
-    but_at_fault c.from_residual-in_err-take_line.result (λ x. x ≡ fault.Write → ⊥) (Appends (g.W.Write.contents c.args.to.now) (g.W.Write.contents c.judge_quiet.new.to) (flat_map found_text c.judge_quiet.new.found.items))
-    (told_more c.loop.found.items c.judge_quiet.new.found.items (g.W.Write.contents c.args.to.now) (g.W.Write.contents c.loop.to) (g.W.Write.contents c.judge_quiet.new.to) c.loop.invariant.written c.in_ok-judge_quiet.ensures.told)
+    but_at_fault c.from_residual-in_err-take_line.result (λ x. x ≡ fault.Write → ⊥) (Appends (g.W.Write.contents c.args.to.now) (g.W.Write.contents c.judge_quiet.new.to) (flat_map (found_text c.args.options.now.answer) c.judge_quiet.new.found.items))
+    (told_more (found_text c.args.options.now.answer) c.loop.found.items c.judge_quiet.new.found.items (g.W.Write.contents c.args.to.now) (g.W.Write.contents c.loop.to) (g.W.Write.contents c.judge_quiet.new.to) c.loop.invariant.written c.in_ok-judge_quiet.ensures.told)
 
 pub returns-in_err-take_line-clause-begun : goal.returns-in_err-take_line-clause-begun
 returns-in_err-take_line-clause-begun g c =
-    at_fault c.from_residual-in_err-take_line.result (AppendsFront (g.W.Write.contents c.args.to.now) (g.W.Write.contents c.judge_quiet.new.to) (flat_map found_text c.judge_quiet.new.found.items))
-    (begun_more c.loop.found.items c.judge_quiet.new.found.items (g.W.Write.contents c.args.to.now) (g.W.Write.contents c.loop.to) (g.W.Write.contents c.judge_quiet.new.to) c.loop.invariant.written c.judge_quiet.ensures.begun)
+    at_fault c.from_residual-in_err-take_line.result (AppendsFront (g.W.Write.contents c.args.to.now) (g.W.Write.contents c.judge_quiet.new.to) (flat_map (found_text c.args.options.now.answer) c.judge_quiet.new.found.items))
+    (begun_more (found_text c.args.options.now.answer) c.loop.found.items c.judge_quiet.new.found.items (g.W.Write.contents c.args.to.now) (g.W.Write.contents c.loop.to) (g.W.Write.contents c.judge_quiet.new.to) c.loop.invariant.written c.judge_quiet.ensures.begun)
 
 pub returns-in-Err-clause-found : goal.returns-in-Err-clause-found
 returns-in-Err-clause-found g c =
@@ -260,7 +260,7 @@ returns-in-Err-clause-found g c =
 
 pub returns-in-Err-clause-kept : goal.returns-in-Err-clause-kept
 returns-in-Err-clause-kept g c = λ not_write.
-    told_more c.loop.found.items c.refused.new.found.items (g.W.Write.contents c.args.to.now) (g.W.Write.contents c.loop.to) (g.W.Write.contents c.refused.new.to) c.loop.invariant.written
+    told_more (found_text c.args.options.now.answer) c.loop.found.items c.refused.new.found.items (g.W.Write.contents c.args.to.now) (g.W.Write.contents c.loop.to) (g.W.Write.contents c.refused.new.to) c.loop.invariant.written
     (c.refused.ensures.kept not_write)
 
 pub returns-clause-found : goal.returns-clause-found
@@ -274,17 +274,17 @@ returns-clause-found g c =
 
 pub returns-in_err-ended-clause-kept : goal.returns-in_err-ended-clause-kept
 returns-in_err-ended-clause-kept g c =
-    but_at_fault c.from_residual-in_err-ended.result (λ x. x ≡ fault.Write → ⊥) (Appends (g.W.Write.contents c.args.to.now) (g.W.Write.contents c.judge_quiet.new.to) (flat_map found_text c.ended.new.found.items))
-    (subst (λ (l : List FoundGranule). Appends (g.W.Write.contents c.args.to.now) (g.W.Write.contents c.judge_quiet.new.to) (flat_map found_text l)) (sym c.in_err-ended.ensures.kept)
-    (told_more c.loop.found.items c.judge_quiet.new.found.items (g.W.Write.contents c.args.to.now) (g.W.Write.contents c.loop.to) (g.W.Write.contents c.judge_quiet.new.to) c.loop.invariant.written c.in_ok-judge_quiet.ensures.told))
+    but_at_fault c.from_residual-in_err-ended.result (λ x. x ≡ fault.Write → ⊥) (Appends (g.W.Write.contents c.args.to.now) (g.W.Write.contents c.judge_quiet.new.to) (flat_map (found_text c.args.options.now.answer) c.ended.new.found.items))
+    (subst (λ (l : List FoundGranule). Appends (g.W.Write.contents c.args.to.now) (g.W.Write.contents c.judge_quiet.new.to) (flat_map (found_text c.args.options.now.answer) l)) (sym c.in_err-ended.ensures.kept)
+    (told_more (found_text c.args.options.now.answer) c.loop.found.items c.judge_quiet.new.found.items (g.W.Write.contents c.args.to.now) (g.W.Write.contents c.loop.to) (g.W.Write.contents c.judge_quiet.new.to) c.loop.invariant.written c.in_ok-judge_quiet.ensures.told))
 
 pub returns-clause-begun : goal.returns-clause-begun
-returns-clause-begun g c = whole_front (g.W.Write.contents c.args.to.now) (g.W.Write.contents c.loop.to) (flat_map found_text c.loop.found.items) c.loop.invariant.written
+returns-clause-begun g c = whole_front (g.W.Write.contents c.args.to.now) (g.W.Write.contents c.loop.to) (flat_map (found_text c.args.options.now.answer) c.loop.found.items) c.loop.invariant.written
 
 pub returns-then-stops-clause-told : goal.returns-then-stops-clause-told
 returns-then-stops-clause-told g c =
-    subst (λ (l : List FoundGranule). Appends (g.W.Write.contents c.args.to.now) (g.W.Write.contents c.judge_quiet.new.to) (flat_map found_text l)) (sym c.stopped.ensures.told.found_is)
-    (told_more c.loop.found.items c.judge_quiet.new.found.items (g.W.Write.contents c.args.to.now) (g.W.Write.contents c.loop.to) (g.W.Write.contents c.judge_quiet.new.to) c.loop.invariant.written c.in_ok-judge_quiet.ensures.told)
+    subst (λ (l : List FoundGranule). Appends (g.W.Write.contents c.args.to.now) (g.W.Write.contents c.judge_quiet.new.to) (flat_map (found_text c.args.options.now.answer) l)) (sym c.stopped.ensures.told.found_is)
+    (told_more (found_text c.args.options.now.answer) c.loop.found.items c.judge_quiet.new.found.items (g.W.Write.contents c.args.to.now) (g.W.Write.contents c.loop.to) (g.W.Write.contents c.judge_quiet.new.to) c.loop.invariant.written c.in_ok-judge_quiet.ensures.told)
 
 pub returns-then-stops-clause-found : goal.returns-then-stops-clause-found
 returns-then-stops-clause-found g c = no_fault (g.R.Read.remaining c.args.from.now)

@@ -9,7 +9,7 @@ use Rattle.chi_watch.specs.Watches.{HasTaken}
 use Rattle.chi_watch_text.specs.Kept.{AreKeptOf}
 use Rattle.chi_watch.specs.Reaching.{IsReachedBy}
 use Rattle.chi_watch_text.specs.Outcomes.{HasTakenLines}
-use Rattle.chi_watch_text.specs.Texts.{found_text}
+use Rattle.chi_watch_text.specs.Written.{found_text}
 use Rattle.chi_watch_text.specs.declared.watched.FoundGranule.{FoundGranule}
 use Rattle.chi_watch_text.proofs.watching.watch_each.Given as goal
 
@@ -19,7 +19,7 @@ invariant-loop g l = record {
   once : AllPairs (λ a b. a.granule ≢ b.granule) l.found.items;
   told : (events : List Event) × HasTaken events l.watch;
   reached : All (λ (f : FoundGranule). IsReachedBy (g.P.Progress.looked for_verdict) l.initial.progress l.progress l.options.budget f.reach f.cut_short) l.found.items;
-  written : Appends (g.W.Write.contents l.initial.to) (g.W.Write.contents l.to) (flat_map found_text l.found.items);
+  written : Appends (g.W.Write.contents l.initial.to) (g.W.Write.contents l.to) (flat_map (found_text l.options.answer) l.found.items);
   first : l.options.keep_going ≡ false → l.found.items ≡ [];
   looked : Grew (g.P.Progress.looked for_verdict) l.initial.progress l.progress;
   kept : AreKeptOf (g.R.Read.remaining l.initial.from) l.kept (g.R.Read.remaining l.from);

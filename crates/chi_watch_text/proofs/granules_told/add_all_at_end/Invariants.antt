@@ -1,0 +1,7 @@
+-- the lines so far
+use Rattle.std.proofs.Common.{◌≡◌, ◌++◌, flat_map, take}
+use Rattle.chi_watch_text.specs.Written.{end_text}
+use Rattle.chi_watch_text.proofs.granules_told.add_all_at_end.Given as goal
+
+abbrev pub invariant-loop-it : goal.invariant-loop-it
+invariant-loop-it l = l.to.items ≡ l.initial.to.items ++ flat_map (end_text l.format l.found) (take l.it-index l.unexplained)

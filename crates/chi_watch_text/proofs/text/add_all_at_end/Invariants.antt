@@ -1,7 +1,0 @@
--- the lines so far
-use Rattle.std.proofs.Common.{◌≡◌, ◌++◌, flat_map, take}
-use Rattle.chi_watch_text.specs.Texts.{end_text}
-use Rattle.chi_watch_text.proofs.text.add_all_at_end.Given as goal
-
-abbrev pub invariant-loop-it : goal.invariant-loop-it
-invariant-loop-it l = l.to.items ≡ l.initial.to.items ++ flat_map (end_text l.found) (take l.it-index l.unexplained)
