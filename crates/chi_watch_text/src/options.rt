@@ -4,9 +4,9 @@ use crate::line_format::LineFormat;
 use crate::required::Required;
 use chi_answer::AnswerFormat;
 
-/// How lines are watched. `format` is what they tell, and `answer` in which form it is written what is found. `budget` is how many
-/// states are looked at for an answer. With `keep_going` a granule that no order explains does not end it. With `keep_lines` the lines that are taken are kept. `required` changes nothing
-/// of what is found.
+/// How lines are watched. `format` is what they tell, and `answer` the form in which what is found is written. `budget` is how many
+/// states are looked at for an answer. With `keep_going` a granule that no order explains does not end it. With `keep_lines` the
+/// lines that are taken are kept. `required` changes nothing of what is found.
 #[derive(Clone, Copy, Debug, PartialEq, Eq)]
 pub struct WatchOptions {
     pub format: LineFormat,
