@@ -7,8 +7,10 @@ import sys
 
 os.chdir(f"{os.path.dirname(os.path.abspath(__file__))}/..")
 sys.dont_write_bytecode = True
+sys.path.append("tests/oracle")
 
 from facts import facts_of_json, facts_of_text
+from histories import told_by_chance
 from process import CHECKER, build, end, run, told, trace
 from run_cases import cases_of
 from samples import adds_at_once, request
@@ -23,6 +25,7 @@ def as_json():
         *((" ".join(words[2:]), it.stdin()) for it in cases_of(["explain/answers/"]) for words in it.command_lines()),
         ("", trace([*two, still_open])),
         ("", trace(adds_at_once(200, 150))),
+        *(("--events", text) for text in told_by_chance(200)),
     ]:
         words = ["explain", *words.split()]
         written, found = run(CHECKER, words, text), run(CHECKER, [*words, "--format", "json"], text)

@@ -4,7 +4,6 @@ tests/cases/watch and tests/cases/flits, on 200 histories by chance, and on inpu
 
 import json
 import os
-import random
 import re
 import sys
 
@@ -13,7 +12,7 @@ sys.dont_write_bytecode = True
 sys.path.append("tests/oracle")
 
 from facts import facts_of_json, facts_of_text
-from histories import history
+from histories import told_by_chance
 from lines import LOST, adds, asks, done, ends, forgets
 from process import CHECKER, build, end, run, told
 from run_cases import cases_of
@@ -73,9 +72,8 @@ def cases():
 
 def histories():
     """Events by chance, in half of which one mistake is made."""
-    for number in range(HISTORIES):
-        events, _ = history(random.Random(f"json/{number}"))
-        says_the_same(["watch", *["--keep-going"][number % 2 :]], "".join(f"{json.dumps(it)}\n" for it in events))
+    for number, text in enumerate(told_by_chance(HISTORIES)):
+        says_the_same(["watch", *["--keep-going"][number % 2 :]], text)
 
 
 def at_once():

@@ -1,6 +1,9 @@
 """Histories of a home by chance, as the events that a monitor tells: a memory executes each request at one instant between
 its first event and its last, and in half of the histories one mistake is made."""
 
+import json
+import random
+
 from memory import COMPARE, OPCODES, READ, WRITE, answers_data, enabled, execute, granule_of, length_of
 
 MOST = 2**64 - 1
@@ -346,3 +349,10 @@ def history(chance, pace=None):
         traits.add("equal times mixed")
         events = mixed(chance, events) if events else events
     return events, traits
+
+
+def told_by_chance(count):
+    """So many histories, the same each time: each as the lines of its events."""
+    for number in range(count):
+        events, _ = history(random.Random(f"told/{number}"))
+        yield "".join(f"{json.dumps(it)}\n" for it in events)
