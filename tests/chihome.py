@@ -2,6 +2,7 @@
 """The program chihome as a process: its scripts by chance, what chicheck reads of its traces, and files that cannot be read or
 written. `tests/cases/chihome` has what it answers to command lines."""
 
+import json
 import os
 import re
 import sys
@@ -91,6 +92,34 @@ def one_add():
         told(f"one add is counted {words}: {found}", found == (1600, ONE_ADD))
 
 
+def outcome_of(line):
+    """What became of a request, as its line in the transcript has it."""
+    if "reply" in line:
+        return line["reply"] if line["reply"] == "comp" else f"data {line['reply']}"
+    return "retry" if "retry" in line else f"refused {line['refused']}"
+
+
+def lines_of(it):
+    """The lines of a transcript, by its JSON."""
+    lines = [f"{op['src']} {op['txn']} {op['op']:02x} {op['name']} {op['size']} {op['addr']:016x} {outcome_of(op)}" for op in it["requests"]]
+    words = re.findall("." * 16, it["final"])
+    told(f"granules: {it['granules']}", len(words) == it["granules"])
+    return lines + [f"m {it['base'] + 8 * place:016x} {word}" for place, word in enumerate(words)]
+
+
+def as_json():
+    """The transcript as JSON says what its text does, and has the script's requests. A race by one requester and 0 has one transcript."""
+    for seed in range(200):
+        script = output(f"generate --requests 40 --refused 20 --image --seed {seed} --requesters 2")
+        asked = json.loads(script)["requests"]
+        for task in ["run", "run --store lock", "race --workers 1"]:
+            it = json.loads(output(f"{task} --format json", script))
+            told(f"{task} as JSON: seed {seed}: {it}", lines_of(it) == output(task, script).splitlines())
+            ordered = asked if task != "race --workers 1" else sorted(asked, key=lambda op: op["src"] == 0)
+            found = [{name: op[name] for name in asked[0]} for op in it["requests"]]
+            told(f"{task}: requests as JSON: seed {seed}: {found}", found == ordered)
+
+
 def ends(words, status, fault=""):
     """Tries a command line with files of the shell: nothing comes on standard output."""
     found = run("bash", ["-c", f'"$0" {words}', HOME], "")
@@ -99,7 +128,7 @@ def ends(words, status, fault=""):
 
 def files():
     """Outputs and inputs fail, and errors that cannot be written change no status."""
-    for task in ["run", "run --trace", "race", "generate", "--help"]:
+    for task in ["run", "run --trace", "run --format json", "race", "race --format json", "generate", "--help"]:
         ends(f"{task} < {ADD} > /dev/full", 5, "chihome: output could not be written\n")
     for task in ["run", "race"]:
         ends(f"{task} <&-", 5, "chihome: input could not be read\n")
@@ -110,6 +139,6 @@ def files():
 
 
 build("chihome", "chicheck")
-for tried in [scripts, traces, one_add, files]:
+for tried in [scripts, traces, one_add, as_json, files]:
     tried()
-end(45)
+end(1800)

@@ -126,10 +126,9 @@ def plans(folder):
 
         return tried
 
-    # Neither writes anything before it has the whole text, and generate reads nothing.
-    for on in False, True:
-        yield of("fetch_add", "generate --requests 3 --image", "refuse_in_turn", on, order="")
-        yield of("fetch_add", "run --trace", "refuse_in_turn", on, order="")
+    # None of these writes anything before it has the whole text, and generate reads nothing.
+    for on, words in itertools.product([False, True], ["generate --requests 3 --image", "run --trace", "run --format json", "race --format json"]):
+        yield of("fetch_add", words, "refuse_in_turn", on, order="")
     yield of("fetch_add", "generate --requests 3", "fail_in_turn", "WRITE", WRITE_FAULT)
     four = "race_of_four", "--workers 4", "1 2 3 4 0"
     for store in STORES:

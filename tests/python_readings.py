@@ -103,7 +103,7 @@ def shown_answers():
 def transcripts():
     """All that pages show of chihome is read, and this is what some of it says."""
     pages = {it: text for it, text in shown().items() if it.startswith(("chihome run <", "chihome race "))}
-    told(f"transcripts that pages show: {list(pages)}", len(pages) >= 3)
+    told(f"transcripts that pages show: {list(pages)}", len(pages) >= 2)
     for command, text in pages.items():
         lines = chi.read_transcript(text)
         told(f"{command}: {lines}", len(lines) == text.count("\n") and {type(it) for it in lines} == {RequestLine, GranuleLine})

@@ -1,12 +1,10 @@
 -- the requests of lines as those of a trace
-use Rattle.std.proofs.Common.{◌≡◌, ℕ, suc, ◌+◌, ◌<◌, ◌≤◌, List, [], ◌∷◌, ◌++◌, Option, None, Some, true, append_assoc, append-nil, drop, get_or, length, ap, sym, ◌∙◌, arith}
+use Rattle.std.proofs.Common.{◌≡◌, ℕ, suc, ◌+◌, ◌<◌, ◌≤◌, List, [], ◌∷◌, ◌++◌, Option, None, Some, append_assoc, append-nil, drop, get_or, length, ap, sym, ◌∙◌, arith}
 use Rattle.std.proofs.Math.Seq.{drop-cons}
 use Rattle.std.proofs.lemmas.List.{drop_all, map-append}
 use Rattle.std.specs.List.{cons_option, enumerate_from, filter_map}
 use Rattle.std.specs.Prelude.{map}
-use Rattle.std.specs.Str.{is_utf8}
 use Rattle.serde_json.specs.Data.{Data, depth, items_depth}
-use Rattle.serde_json.specs.Read.{read}
 use Rattle.serde_json.specs.View.{items_of, view}
 use Rattle.serde_json.specs.declared.value.Value.{Value}
 use Rattle.chi_fields.specs.Extent.{Extent}
@@ -14,7 +12,6 @@ use Rattle.chi_lanes.specs.declared.reply.Reply.TheVariants.{Comp, CompData}
 use Rattle.chi_history.specs.declared.line.Line.{Line}
 use Rattle.chi_history.specs.declared.line.Line.TheVariants.{Completed, Refused, Retried}
 use Rattle.chi_json.specs.Object.{with_array, with_bytes, with_number, with_request, with_text}
-use Rattle.chi_json.specs.Values.{json_value}
 use Rattle.chi_engine.specs.Trace.{line_data, lines_data, taken_at, trace_data, with_reply}
 
 -- the requests of the lines from a place on
@@ -63,13 +60,6 @@ lines_depth place [] = omega arith
 lines_depth place (line ∷ lines) = line_depth place line (filter_map (λ p. line_data p.0 p.1) (enumerate_from (place + 1) lines)) (lines_depth (place + 1) lines)
 
 -- a trace nests three times at most
-trace_depth : (region : Extent) (image words : List ℕ) (lines : List Line) → depth (trace_data region image words lines) ≤ 127
+pub trace_depth : (region : Extent) (image words : List ℕ) (lines : List Line) → depth (trace_data region image words lines) ≤ 127
 unfolding trace_data with_array with_bytes with_number
 trace_depth region image words lines = let deep = lines_depth 0 lines in omega arith
-
--- the text that is made of a trace's value has this value
-pub trace_reads : (region : Extent) (image words : List ℕ) (lines : List Line) (d : Data) (text : List ℕ) → d ≡ trace_data region image words lines
-    → is_utf8 text ≡ true → (depth d ≤ 127 → read text ≡ Some d) → json_value text ≡ Some (trace_data region image words lines)
-unfolding json_value
-trace_reads region image words lines d text is utf8 reads =
-    rw utf8 (reads (rw is (trace_depth region image words lines)) ∙ ap (λ (e : Data). Some e) is)

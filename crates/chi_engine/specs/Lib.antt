@@ -1,6 +1,8 @@
 pub mod Store
 pub mod WorkerCount
 pub mod Trace
+pub mod JsonWritten
+pub mod TranscriptJson
 pub mod Engine
 pub mod Run
 pub mod RaceTranscript

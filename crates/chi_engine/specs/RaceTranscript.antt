@@ -9,7 +9,7 @@ use Rattle.chi_requester.specs.declared.race_of_any.Racer.{Racer}
 use Rattle.chi_requester.specs.Race.{IsRace, IsRaceRun}
 use Rattle.chi_requester.specs.Team.{one_to}
 use Rattle.chi_requester.specs.Work.{own_requests}
-use Rattle.chi_script.specs.RunText.{memory_text}
+use Rattle.chi_script.specs.RunText.{granule_words, memory_text}
 use Rattle.chi_script.specs.Script.{ScriptValue}
 use Rattle.chi_script.specs.Transcript.{text}
 use Rattle.chi_script.specs.WriterBytes.{AppendsFront}
@@ -27,6 +27,10 @@ IsRaced options s since lines = IsRace (opening_of s) options.policy (limit_of o
 abbrev pub IsRaceCut : WorkFault → Options → ScriptValue → List Entry → (ℕ → List Line) → Type 0
 IsRaceCut fault options s since lines =
     IsRaceRun (Err fault) (opening_of s) options.policy (limit_of options.store) (one_to options.workers) s.requests [] since (λ r. []) lines
+
+-- the words of the granules at the end of the history
+abbrev pub words_of : ScriptValue → List Entry → List ℕ
+words_of s since = granule_words (end (opening_of s) since) s.region.base s.region.granules
 
 -- so many numbers, from one on
 abbrev pub numbers_from : ℕ → ℕ → List ℕ

@@ -1,6 +1,5 @@
 -- what a run that writes a trace does: the requests of its input's script, each with what became of it
-use Rattle.std.specs.Prelude.{◌≡◌, ℕ, List, filter_map, Option, None, Some, Result, Ok, Err, codes}
-use Rattle.std.specs.Io.KnownBytes.{Appends, Keeps}
+use Rattle.std.specs.Prelude.{ℕ, List, filter_map, Option, None, Some, Result, codes}
 use Rattle.std.specs.List.{enumerate_from}
 use Rattle.serde_json.specs.Data.{Data, Members, no_members, object}
 use Rattle.serde_json.specs.View.{items_of}
@@ -14,14 +13,12 @@ use Rattle.chi_history.specs.declared.line.Line.TheVariants.{Completed, Refused,
 use Rattle.chi_history.specs.History.{opening_memory}
 use Rattle.chi_history.specs.Lines.{serial, serial_end}
 use Rattle.chi_json.specs.Object.{with_array, with_bytes, with_number, with_request, with_text, word_bytes}
-use Rattle.chi_json.specs.Values.{json_value}
 use Rattle.chi_script.specs.RunText.{granule_words}
 use Rattle.chi_script.specs.Script.{ScriptValue}
-use Rattle.chi_script.specs.WriterBytes.{AppendsFront}
 use Rattle.chi_engine.specs.declared.fault.EngineFault.{EngineFault}
-use Rattle.chi_engine.specs.declared.fault.EngineFault.TheVariants.{Memory, Work, Write}
 use Rattle.chi_engine.specs.declared.options.Options.{Options}
 use Rattle.chi_engine.specs.Engine.{FromInput, FromOpening, ReportsRegion}
+use Rattle.chi_engine.specs.JsonWritten.{IsTextOf, WritesValue}
 use Rattle.chi_engine.specs.Run.{most_src}
 use Rattle.chi_engine.specs.Store.{opening_of}
 
@@ -59,29 +56,18 @@ trace_data region image final_words lines =
     object (with_array (codes "requests") (items_of (lines_data lines)) (with_bytes (codes "final") (word_bytes final_words)
     (with_bytes (codes "image") (word_bytes image) (with_number (codes "granules") region.granules (with_number (codes "base") region.base no_members)))))
 
--- the text is the trace of a script's run
+-- the trace of a script's run
+abbrev pub trace_of : ScriptValue → Data
+trace_of s = trace_data s.region s.image (final_words_of s) (lines_of s)
+
+-- the text is that trace
 abbrev pub IsTraceText : ScriptValue → List ℕ → Type 0
-IsTraceText s text = json_value text ≡ Some (trace_data s.region s.image (final_words_of s) (lines_of s))
+IsTraceText s text = IsTextOf (trace_of s) text
 
--- What is written of a script over a home: after Ok the trace of its run, and after a fault of the writer a beginning of one. Where
--- there was no memory for the work, or for the text, nothing is.
-abbrev pub Traces : ScriptValue → Option (List ℕ) → Option (List ℕ) → Result (Unit {0}) EngineFault → Type 0
-Traces s old new (Ok done) = (text : List ℕ) × IsTraceText s text × Appends old new text
-Traces s old new (Err (Write fault)) = (text : List ℕ) × IsTraceText s text × AppendsFront old new text
-Traces s old new (Err (Work fault)) = Keeps old new
-Traces s old new (Err Memory) = Keeps old new
-Traces s old new (Err fault) = ⊥
-
--- the same over the store of the options, which may be refused
+-- what is written of a script over the store of the options, which may be refused: the trace of its run
 abbrev pub TracesBy : Options → ScriptValue → Option (List ℕ) → Option (List ℕ) → Result (Unit {0}) EngineFault → Type 0
-TracesBy options s old new result = ReportsRegion options.store s.region.granules result × FromOpening result (Traces s old new result)
+TracesBy options s old new result = ReportsRegion options.store s.region.granules result × FromOpening result (WritesValue (trace_of s) old new result)
 
 -- after Ok the trace of the run of the input's script was written; what each fault means, and what was written then
 abbrev pub TraceOutcome : Options → List ℕ → Option (List ℕ) → Option (List ℕ) → Result (Unit {0}) EngineFault → Type 0
 TraceOutcome options input old new result = FromInput input most_src result (λ s. TracesBy options s old new result)
-
--- Nothing is written but where the whole text was made: after a fault of the writer there may be a beginning of it.
-abbrev pub KeepsUnwritten : Option (List ℕ) → Option (List ℕ) → Result (Unit {0}) EngineFault → Type 0
-KeepsUnwritten old new (Ok done) = Unit {0}
-KeepsUnwritten old new (Err (Write fault)) = Unit {0}
-KeepsUnwritten old new (Err fault) = Keeps old new

@@ -1,18 +1,22 @@
-//! From a script's bytes to a transcript's bytes, or to a trace's.
+//! From a script's bytes to a transcript's bytes, as text or as JSON, or to a trace's.
 
 ghost use Rattle.std.specs.Prelude.{IfSome};
 ghost use Rattle.chi_engine.specs.Engine.{KeepsUnexecuted, ReportsOpening};
 ghost use Rattle.chi_engine.specs.RaceTranscript.{RaceOutcome};
 ghost use Rattle.chi_engine.specs.Run.{Outcome};
-ghost use Rattle.chi_engine.specs.Trace.{KeepsUnwritten, TraceOutcome};
+ghost use Rattle.chi_engine.specs.JsonWritten.{KeepsUnwritten};
+ghost use Rattle.chi_engine.specs.Trace.{TraceOutcome};
+ghost use Rattle.chi_engine.specs.TranscriptJson.{OutcomeAs, RaceJsonOutcome, RunJsonOutcome};
 
 use crate::fault::EngineFault;
 use crate::input::read_whole;
 use crate::options::Options;
 use crate::race::race_script;
+use crate::race_json::race_script_json;
 use crate::run::run_over;
+use crate::run_form::RunForm;
+use crate::run_json::run_json_over;
 use crate::store::{on_store, room};
-use crate::trace::trace_over;
 use chi_history::Gate;
 use chi_requester::MixedGate;
 use std::alloc::{AllocError, Global};
@@ -56,6 +60,32 @@ pub fn engine_run<T: AllocGlobal + Wait, R: Read, W: Write>(
     )
 }
 
+// Reads a script, executes its requests in order, and writes that in this form.
+fn engine_json<T: AllocGlobal + Wait, R: Read, W: Write>(
+    rt: &T,
+    form: RunForm,
+    from: &mut R,
+    to: &mut W,
+    options: &Options,
+) -> Result<(), EngineFault>
+    ensures outcome { IfSome (R.remaining from.old) (λ input. OutcomeAs form options.now input (W.contents to.old) (W.contents to.new) result) }
+    ensures opening { ReportsOpening options.now.store result }
+    ensures unwritten { KeepsUnwritten (W.contents to.old) (W.contents to.new) result }
+{
+    let script = &read_whole(rt.alloc(), from, MOST_SRC)?;
+    let Ok(mut words) = room(rt.alloc(), script.region().granules()) else {
+        return Err(EngineFault::Memory);
+    };
+    let words = words.as_mut_slice();
+    let policy = options.policy;
+    on_store!(
+        rt.alloc(),
+        script,
+        options,
+        |home, seat| run_json_over(&home, rt, &mut seat, form, script, policy, words, to)
+    )
+}
+
 /// Reads a script, executes its requests in order as `engine_run` does, and writes a trace of that in place of the transcript: the
 /// script with more members, in JSON. Each request has `start` and `end`, which both are its place among the requests, counted
 /// from 0, and `reply`, or `refused` and the reason. `image` and `final` have the bytes of the region before and after.
@@ -77,18 +107,29 @@ pub fn engine_trace<T: AllocGlobal + Wait, R: Read, W: Write>(
     ensures opening { ReportsOpening options.now.store result }
     ensures unwritten { KeepsUnwritten (W.contents to.old) (W.contents to.new) result }
 {
-    let script = &read_whole(rt.alloc(), from, MOST_SRC)?;
-    let Ok(mut words) = room(rt.alloc(), script.region().granules()) else {
-        return Err(EngineFault::Memory);
-    };
-    let words = words.as_mut_slice();
-    let policy = options.policy;
-    on_store!(
-        rt.alloc(),
-        script,
-        options,
-        |home, seat| trace_over(&home, rt, &mut seat, script, policy, words, to)
-    )
+    engine_json(rt, RunForm::Trace, from, to, options)
+}
+
+/// Reads a script, executes its requests in order as `engine_run` does, and writes the transcript as one JSON object. `requests` has
+/// an object for each line: the members of its request in a script, `name`, and `reply` (`comp`, or the data packet), `refused` (the
+/// reason), or `retry`. `final` has the bytes of the region after them.
+///
+/// Faults, and what is written then, are those of `engine_trace`.
+///
+/// ```
+/// engine_run_json(rt, &mut script.as_bytes(), &mut transcript, &options)?;
+/// ```
+pub fn engine_run_json<T: AllocGlobal + Wait, R: Read, W: Write>(
+    rt: &T,
+    from: &mut R,
+    to: &mut W,
+    options: &Options,
+) -> Result<(), EngineFault>
+    ensures outcome { IfSome (R.remaining from.old) (λ input. RunJsonOutcome options.now input (W.contents to.old) (W.contents to.new) result) }
+    ensures opening { ReportsOpening options.now.store result }
+    ensures unwritten { KeepsUnwritten (W.contents to.old) (W.contents to.new) result }
+{
+    engine_json(rt, RunForm::Transcript, from, to, options)
 }
 
 // The four gates, of which each may be of a type of its own.
@@ -163,4 +204,24 @@ pub fn engine_race<
         return Err(EngineFault::Memory);
     };
     engine_race_gated(rt, from, to, options, gates)
+}
+
+/// Races a script as `engine_race_gated` does, and writes the transcript as one JSON object, as `engine_run_json` has it. Where there
+/// is no memory for the work or the text, nothing is written.
+///
+/// ```
+/// engine_race_json(rt, &mut script.as_bytes(), &mut transcript, &options, vec![in rt.alloc(); NoGate; 7]?)?;
+/// ```
+pub fn engine_race_json<
+    T: AllocGlobal + Threads + Wait + Sync,
+    R: Read,
+    W: Write,
+    G: Gate + Drop + Send,
+>(rt: &T, from: &mut R, to: &mut W, options: &Options, gates: Vec<G>) -> Result<(), EngineFault>
+    ensures outcome { IfSome (R.remaining from.old) (λ input. RaceJsonOutcome options.now input (W.contents to.old) (W.contents to.new) result) }
+    ensures opening { ReportsOpening options.now.store result }
+    ensures unwritten { KeepsUnwritten (W.contents to.old) (W.contents to.new) result }
+{
+    let script = &read_whole(rt.alloc(), from, options.workers.count())?;
+    race_script_json(rt, script, to, options, gates)
 }

@@ -1,15 +1,14 @@
 //! A script's requests raced: those of 1 to 7 requesters at the same time, and then those of 0.
 
-ghost use Rattle.std.specs.Prelude.{◌≡◌, ◌+◌, ◌≤◌, [], ◌++◌, length, All, IfOk};
+ghost use Rattle.std.specs.Prelude.{◌≡◌, ◌+◌, ◌≤◌, [], ◌++◌, length, All, IfErr, IfOk, OnOk};
 ghost use Rattle.chi_history.specs.NumberSets.{AllFrom, below};
-ghost use Rattle.chi_history.specs.History.{end};
+ghost use Rattle.chi_requester.specs.Race.{lines_of_all};
 ghost use Rattle.chi_script.specs.Transcript.{granules_text, text};
 ghost use Rattle.chi_script.specs.WriterBytes.{Puts};
 ghost use Rattle.chi_engine.specs.Engine.{KeepsUnexecuted, ReportsOpening};
-ghost use Rattle.chi_engine.specs.RaceTranscript.{RacesBy, RacesOver, racers_text};
+ghost use Rattle.chi_engine.specs.RaceTranscript.{IsRaceCut, IsRaced, RacesBy, RacesOver, racers_text, words_of};
 ghost use Rattle.chi_engine.specs.Store.{IsFresh, limit_of, opening_of};
 ghost use Rattle.chi_engine.specs.WorkerCount.{most_workers};
-ghost use Rattle.chi_script.specs.RunText.{granule_words};
 
 use crate::fault::EngineFault;
 use crate::optional_gate::OptionalGate;
@@ -18,7 +17,7 @@ use crate::store::{on_store, room};
 use crate::workers::Workers;
 use chi_fields::Region;
 use chi_history::{Gate, Home, Line};
-use chi_requester::{Racer, race};
+use chi_requester::{Racer, WorkFault, race};
 use chi_script::{Script, WriteFault, write_lines, write_transcript};
 use std::alloc::{AllocError, Global};
 use std::io::Write;
@@ -26,7 +25,7 @@ use std::sync::Wait;
 use std::thread::Threads;
 
 // So many racers, from 1 on, with no line yet, by these gates as far as they go.
-fn racers_by<S: Drop, G: Drop>(
+pub(crate) fn racers_by<S: Drop, G: Drop>(
     alloc: Global,
     workers: Workers,
     gates: Vec<G>,
@@ -97,9 +96,42 @@ fn words_after<H: Home, R: Wait>(
     requires opening { H.opening home.now ≡ opening_of script.now }
     requires all { H.held seat.old ≡ below (opening_of script.now).requesters }
     requires room { length words.old ≡ script.now.region.granules }
-    ensures { words.new ≡ granule_words (end (opening_of script.now) (H.seen seat.old)) script.now.region.base script.now.region.granules }
+    ensures seen { H.seen seat.new ≡ H.seen seat.old }
+    ensures shown { words.new ≡ words_of script.now (H.seen seat.old) }
 {
     home.snapshot(rt, seat, words);
+}
+
+// Races a script over a home that was just opened for it, by racers with no line yet: the lines of these and of 0, and the words of
+// the memory after them.
+pub(crate) fn race_all<H: Home + Sync, T: Threads + Wait + Sync, G: Gate + Drop + Send>(
+    home: &H,
+    rt: &T,
+    seat: &mut H::Seat,
+    script: &Script,
+    options: &Options,
+    racers: &mut [Racer<H::Seat, G, Global>],
+    zero: &mut Vec<Line>,
+    words: &mut [u64],
+) -> Result<(), WorkFault>
+    requires own { H.belongs home.now seat.old }
+    requires fresh { IsFresh (H.opening home.now) script.now (H.held seat.old) (H.seen seat.old) }
+    requires limit { H.limit home.now ≡ limit_of options.now.store }
+    requires from { AllFrom (below (options.now.workers + 1)) script.now.requests }
+    requires room { length words.old ≡ script.now.region.granules }
+    requires count { length racers.old ≡ options.now.workers }
+    requires few { length racers.old ≤ most_workers }
+    requires none { All (λ racer. racer.lines.items ≡ []) racers.old }
+    requires empty { zero.old.items ≡ [] }
+    ensures count { length racers.new ≡ options.now.workers }
+    ensures raced { OnOk result (IsRaced options.now script.now (H.seen seat.new) (lines_of_all zero.new.items racers.new)) }
+    ensures shown { OnOk result (words.new ≡ words_of script.now (H.seen seat.new)) }
+    ensures cut { IfErr result (λ fault. IsRaceCut fault options.now script.now (H.seen seat.new) (lines_of_all zero.new.items racers.new)) }
+{
+    let requests = script.requests();
+    race(home, rt, seat, requests, options.policy, racers, zero)?;
+    words_after(home, rt, seat, script, words);
+    Ok(())
 }
 
 // Races a script over a home that was just opened for it, by the workers of the options, and writes the transcript.
@@ -130,14 +162,11 @@ fn race_over<
     };
     let racers = racers.as_mut_slice();
     let mut zero = Vec::new(rt.alloc());
-    let requests = script.requests();
-    let outcome = race(home, rt, seat, requests, options.policy, racers, &mut zero);
-    if let Err(fault) = outcome {
+    if let Err(fault) = race_all(home, rt, seat, script, options, racers, &mut zero, words) {
         // That the work stopped is answered also where this writing fails.
         let _written = write_race_lines(to, racers, zero.as_slice());
         return Err(EngineFault::Work(fault));
     }
-    words_after(home, rt, seat, script, words);
     write_race(to, racers, zero.as_slice(), &script.region(), words).map_err(EngineFault::Write)
 }
 

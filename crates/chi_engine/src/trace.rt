@@ -1,26 +1,17 @@
-//! A script's requests executed one after another, and the trace that they are.
+//! The trace of requests that were executed one after another, as a value of JSON.
 
-ghost use Rattle.std.specs.Prelude.{◌≡◌, ◌+◌, OnOk, IfOk, Some, length, map, string_bytes};
+ghost use Rattle.std.specs.Prelude.{◌≡◌, OnOk, IfOk, map};
 ghost use Rattle.std.specs.Option.{option_map};
 ghost use Rattle.serde_json.specs.View.{members_view, view};
-ghost use Rattle.chi_history.specs.NumberSets.{AllFrom, below};
-ghost use Rattle.chi_json.specs.Values.{json_value};
-ghost use Rattle.chi_engine.specs.Run.{most_src};
-ghost use Rattle.chi_engine.specs.Store.{IsFresh};
-ghost use Rattle.chi_engine.specs.Trace.{KeepsUnwritten, Traces, line_data, lines_data, taken_at, trace_data, with_reply};
+ghost use Rattle.chi_engine.specs.Trace.{line_data, lines_data, taken_at, trace_data, with_reply};
 
-use crate::fault::EngineFault;
-use crate::run::work_all;
 use chi_fields::{Request, refusal_name};
-use chi_history::{Home, Line};
+use chi_history::Line;
 use chi_json::{put_bytes, put_number, put_request, put_text, put_words};
 use chi_lanes::Reply;
-use chi_requester::Policy;
-use chi_script::{Script, write_bytes};
+use chi_script::Script;
 use serde_json::{Map, Value, put};
 use std::alloc::{AllocError, Global};
-use std::io::Write;
-use std::sync::Wait;
 
 // The members of a request that was taken and answered at a time.
 #[tactic(auto, unfolding(crate::specs::Trace::taken_at))]
@@ -36,7 +27,7 @@ fn taken_at(alloc: Global, time: u64, request: &Request) -> Result<Map<String, V
 
 // What was answered.
 #[tactic(auto, unfolding(crate::specs::Trace::with_reply))]
-fn put_reply(
+pub(crate) fn put_reply(
     alloc: Global,
     members: &mut Map<String, Value>,
     reply: &Reply,
@@ -85,7 +76,7 @@ fn line_values(alloc: Global, lines: &[Line]) -> Result<Vec<Value>, AllocError>
 
 // The trace of a script's run, by its lines and the words that it left.
 #[tactic(auto, unfolding(crate::specs::Trace::trace_data, chi_json::specs::Object::with_array))]
-fn trace_value(
+pub(crate) fn trace_value(
     alloc: Global,
     script: &Script,
     words: &[u64],
@@ -107,46 +98,4 @@ fn trace_value(
     let requests = line_values(alloc, lines)?;
     put(&mut members, alloc, "requests", Value::Array(requests))?;
     Ok(Value::Object(members))
-}
-
-// The text of that trace.
-fn trace_text(
-    alloc: Global,
-    script: &Script,
-    words: &[u64],
-    lines: &[Line],
-) -> Result<String, AllocError>
-    ensures { IfOk result (λ text. json_value (string_bytes text) ≡ Some (trace_data script.now.region script.now.image words.now lines.now)) }
-{
-    let text = trace_value(alloc, script, words, lines)?.to_string(alloc)?;
-    // That the bytes are UTF-8 is known here once they are looked at.
-    let _bytes = text.as_str().as_bytes();
-    Ok(text)
-}
-
-// Executes a script over a home that was just opened for it, and writes the trace of that.
-pub(crate) fn trace_over<H: Home, T: AllocGlobal + Wait, W: Write>(
-    home: &H,
-    rt: &T,
-    seat: &mut H::Seat,
-    script: &Script,
-    policy: Policy,
-    words: &mut [u64],
-    to: &mut W,
-) -> Result<(), EngineFault>
-    requires own { H.belongs home.now seat.old }
-    requires fresh { IsFresh (H.opening home.now) script.now (H.held seat.old) (H.seen seat.old) }
-    requires from { AllFrom (below (most_src + 1)) script.now.requests }
-    requires room { length words.old ≡ script.now.region.granules }
-    ensures traces { Traces script.now (W.contents to.old) (W.contents to.new) result }
-    ensures unwritten { KeepsUnwritten (W.contents to.old) (W.contents to.new) result }
-{
-    let mut lines = Vec::new(rt.alloc());
-    if let Err(fault) = work_all(home, rt, seat, script, policy, &mut lines, words) {
-        return Err(EngineFault::Work(fault));
-    }
-    let Ok(text) = trace_text(rt.alloc(), script, words, lines.as_slice()) else {
-        return Err(EngineFault::Memory);
-    };
-    write_bytes(to, text.as_str().as_bytes()).map_err(EngineFault::Write)
 }

@@ -15,3 +15,4 @@ mod race_tests;
 mod run_tests;
 mod scripts;
 mod trace_tests;
+mod transcript_json_tests;

@@ -12,10 +12,11 @@ use Rattle.chi_script.specs.declared.device.WriteFault.TheVariants.{Failed}
 use Rattle.chi_engine.specs.declared.fault.EngineFault.{EngineFault}
 use Rattle.chi_engine.specs.declared.fault.EngineFault.TheVariants as engine_fault
 use Rattle.chi_engine.specs.declared.options.Options.{Options}
-use Rattle.chi_engine.specs.Trace.{KeepsUnwritten}
+use Rattle.chi_engine.specs.JsonWritten.{KeepsUnwritten}
 use Rattle.chi_engine.specs.Engine.{KeepsUnexecuted}
 use Rattle.chi_engine.specs.Store.{Opens}
 use Rattle.chi_home.specs.Task.{Ends, Makes, TaskOutcome}
+use Rattle.chi_home.specs.declared.command.Form.TheVariants.{Text, Json}
 use Rattle.chi_home.specs.declared.command.Task.{Task}
 use Rattle.chi_home.specs.declared.command.Task.TheVariants.{Run, Race, Trace}
 use Rattle.chi_home.specs.Generating.{WritesScript, are_in_range, asked_for, on_region, with_mix}
@@ -74,10 +75,16 @@ unexecuted old new (Err (engine_fault.Write fault)) keeps = tt
 -- a task that was done has written its whole text, whether that can be flushed or not
 flushed : (task : Task) (options : Options) (input : List ℕ) (old mid new : Option (List ℕ)) (done : Unit {0}) → Keeps mid new
     → TaskOutcome task options input old mid (Ok done) → TaskOutcome task options input old new (Ok done)
-flushed Run options input old mid new done keeps outcome =
+flushed (Run Text) options input old mid new done keeps outcome =
     let made = outcome.1.2.1 in
     (outcome.0, (outcome.1.0, outcome.1.1, (outcome.1.2.0, appends_kept old mid new _ made keeps)))
-flushed Race options input old mid new done keeps outcome =
+flushed (Run Json) options input old mid new done keeps outcome =
+    let made = outcome.1.2.1 in
+    (outcome.0, (outcome.1.0, outcome.1.1, (outcome.1.2.0, (made.0, made.1, appends_kept old mid new _ made.2 keeps))))
+flushed (Race Json) options input old mid new done keeps outcome =
+    let made = outcome.1.2.1 in
+    (outcome.0, (outcome.1.0, outcome.1.1, (outcome.1.2.0, (made.0, made.1, made.2, (made.3.0, made.3.1, appends_kept old mid new _ made.3.2 keeps)))))
+flushed (Race Text) options input old mid new done keeps outcome =
     let made = outcome.1.2.1 in
     (outcome.0, (outcome.1.0, outcome.1.1, (outcome.1.2.0, (made.0, made.1, made.2, appends_kept old mid new _ made.3 keeps))))
 flushed Trace options input old mid new done keeps outcome =
@@ -86,10 +93,16 @@ flushed Trace options input old mid new done keeps outcome =
 
 flush_failed : (task : Task) (options : Options) (input : List ℕ) (old mid new : Option (List ℕ)) (done : Unit {0}) (fault : WriteFault) → Keeps mid new
     → TaskOutcome task options input old mid (Ok done) → TaskOutcome task options input old new (Err (engine_fault.Write fault))
-flush_failed Run options input old mid new done fault keeps outcome =
+flush_failed (Run Text) options input old mid new done fault keeps outcome =
     let made = outcome.1.2.1 in
     (outcome.0, (outcome.1.0, outcome.1.1, (outcome.1.2.0, flushed_front old mid new _ made keeps)))
-flush_failed Race options input old mid new done fault keeps outcome =
+flush_failed (Run Json) options input old mid new done fault keeps outcome =
+    let made = outcome.1.2.1 in
+    (outcome.0, (outcome.1.0, outcome.1.1, (outcome.1.2.0, (made.0, made.1, flushed_front old mid new _ made.2 keeps))))
+flush_failed (Race Json) options input old mid new done fault keeps outcome =
+    let made = outcome.1.2.1 in
+    (outcome.0, (outcome.1.0, outcome.1.1, (outcome.1.2.0, (made.0, made.1, made.2, (made.3.0, made.3.1, flushed_front old mid new _ made.3.2 keeps)))))
+flush_failed (Race Text) options input old mid new done fault keeps outcome =
     let made = outcome.1.2.1 in
     (outcome.0, (outcome.1.0, outcome.1.1, (outcome.1.2.0, (made.0, made.1, made.2, flushed_front old mid new _ made.3 keeps))))
 flush_failed Trace options input old mid new done fault keeps outcome =

@@ -15,14 +15,16 @@ abbrev pub IsChoice : Text → List Text → Text → Rule → Type 0
 IsChoice name words default rule =
     (values : Bor (List (Bor Text))) × (texts values.now ≡ words) × (rule ≡ option_rule name (value_parser.Names values) (default ∷ []))
 
--- a task of this name: its store is a lock or a book, its attempts are 1 to 16, its policy is to resend or to return
+-- a task of this name: its store is a lock or a book, its attempts are 1 to 16, its policy is to resend or to return, and its format is text
+-- or JSON
 abbrev pub IsTaskApp : Text → App → Type 0
 IsTaskApp name app =
-    (store : Rule) × (policy : Rule)
+    (store : Rule) × (policy : Rule) × (format : Rule)
     × IsChoice (codes "store") (codes "lock" ∷ codes "book" ∷ []) (codes "book") store
     × IsChoice (codes "policy") (codes "resend" ∷ codes "return" ∷ []) (codes "resend") policy
-    × (app ≡ with_rule (with_rule (with_rule (new_app name) store)
-    (option_rule (codes "attempts") (value_parser.Signed (pos 1) (pos 16)) (codes "4" ∷ []))) policy)
+    × IsChoice (codes "format") (codes "text" ∷ codes "json" ∷ []) (codes "text") format
+    × (app ≡ with_rule (with_rule (with_rule (with_rule (new_app name) store)
+    (option_rule (codes "attempts") (value_parser.Signed (pos 1) (pos 16)) (codes "4" ∷ []))) policy) format)
 
 -- a race may be told its workers, 1 to 7
 abbrev pub workers_rule : Rule

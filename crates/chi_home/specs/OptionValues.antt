@@ -12,6 +12,8 @@ use Rattle.chi_engine.specs.declared.options.Store.TheVariants.{Lock, Book}
 use Rattle.chi_engine.specs.Store.{Opens}
 use Rattle.chi_engine.specs.WorkerCount.{workers_of_count}
 use Rattle.chi_home.specs.Generating.{HasGenerateOptions}
+use Rattle.chi_home.specs.declared.command.Form.{Form}
+use Rattle.chi_home.specs.declared.command.Form.TheVariants.{Text as AsText, Json}
 use Rattle.chi_home.specs.declared.command.Job.{Job}
 use Rattle.chi_home.specs.declared.command.Job.TheVariants.{Work, Script}
 use Rattle.chi_home.specs.declared.command.Task.{Task}
@@ -19,9 +21,14 @@ use Rattle.chi_home.specs.declared.command.Task.TheVariants.{Run, Race, Trace}
 use Rattle.chi_home.specs.CommandLine.{IsProgram}
 use Rattle.chi_program.specs.OptionValues.{BeginsWith, has_word}
 
+-- `--format json`, or any other word
+abbrev pub form_of : List Row → Form
+form_of found = if has_word found (codes "format") (codes "json") then Json else AsText
+
 -- the task of a subcommand's name and of what was found: a run with `--trace` writes what was executed as a trace
 abbrev pub task_named : Text → List Row → Task
-task_named name found = if bytes_eq name (codes "race") then Race else if has_word found (codes "trace") (codes "true") then Trace else Run
+task_named name found =
+    if bytes_eq name (codes "race") then Race (form_of found) else if has_word found (codes "trace") (codes "true") then Trace else Run (form_of found)
 
 -- `--policy return`, or any other word
 abbrev pub policy_of : List Row → Policy
@@ -49,8 +56,8 @@ workers_of found = workers_or_two (option_map_or byte_or_zero (one_of (codes "wo
 
 -- only a race is told its workers
 abbrev pub workers_for : Task → List Row → ℕ
-workers_for Run found = 2
-workers_for Race found = workers_of found
+workers_for (Run form) found = 2
+workers_for (Race form) found = workers_of found
 workers_for Trace found = 2
 
 -- the options of a task, as they were found
@@ -85,15 +92,17 @@ abbrev pub HasAttempts : Job → Type 0
 HasAttempts (Work task options) = Opens options.store
 HasAttempts (Script options) = Unit {0}
 
--- it is this task that is asked for
-abbrev pub IsWork : Task → Job → Type 0
-IsWork wanted (Work task options) = task ≡ wanted
-IsWork wanted (Script options) = ⊥
+-- it is a race that is asked for
+abbrev pub IsRace : Job → Type 0
+IsRace (Work (Run form) options) = ⊥
+IsRace (Work (Race form) options) = Unit {0}
+IsRace (Work Trace options) = ⊥
+IsRace (Script options) = ⊥
 
 -- it is a run that is asked for, with its transcript or with its trace
 abbrev pub IsRun : Job → Type 0
-IsRun (Work Run options) = Unit {0}
-IsRun (Work Race options) = ⊥
+IsRun (Work (Run form) options) = Unit {0}
+IsRun (Work (Race form) options) = ⊥
 IsRun (Work Trace options) = Unit {0}
 IsRun (Script options) = ⊥
 
@@ -105,5 +114,5 @@ IsScript (Script options) = Unit {0}
 -- a first argument that is a task's name names the task
 abbrev pub IsNamedFirst : List Text → Job → Type 0
 IsNamedFirst arguments job =
-    (BeginsWith arguments (codes "race") → IsWork Race job) × (BeginsWith arguments (codes "run") → IsRun job)
+    (BeginsWith arguments (codes "race") → IsRace job) × (BeginsWith arguments (codes "run") → IsRun job)
     × (BeginsWith arguments (codes "generate") → IsScript job)

@@ -1,10 +1,11 @@
 -- what the program does with a script, by its task
 use Rattle.std.specs.Prelude.{◌≡◌, ℕ, ◌⊎◌, List, Option, Result, Ok, Err, IfSome}
-use Rattle.clap.specs.Walk.{Text}
+use Rattle.clap.specs.Walk as walk
 use Rattle.chi_history.specs.declared.opening.OpenFault.TheVariants as open_fault
 use Rattle.chi_home.specs.Generating.{WritesScript, generate_status}
 use Rattle.chi_home.specs.declared.generation.GenerateFault.{GenerateFault}
 use Rattle.chi_home.specs.declared.generation.GenerateOptions.{GenerateOptions}
+use Rattle.chi_home.specs.declared.command.Form.TheVariants.{Text, Json}
 use Rattle.chi_home.specs.declared.command.Job.{Job}
 use Rattle.chi_home.specs.declared.command.Job.TheVariants.{Work, Script}
 use Rattle.chi_home.specs.declared.command.Task.{Task}
@@ -18,13 +19,16 @@ use Rattle.chi_engine.specs.Trace.{TraceOutcome}
 use Rattle.chi_engine.specs.Engine.{KeepsUnexecuted, ReportsOpening}
 use Rattle.chi_engine.specs.Store.{Opens}
 use Rattle.chi_engine.specs.RaceTranscript.{RaceOutcome}
+use Rattle.chi_engine.specs.TranscriptJson.{RaceJsonOutcome, RunJsonOutcome}
 use Rattle.chi_engine.specs.Run.{Outcome}
 use Rattle.chi_engine.specs.FaultStatus.{status_of}
 use Rattle.chi_program.specs.Answered.{ReportsArguments}
 
 abbrev pub TaskOutcome : Task → Options → List ℕ → Option (List ℕ) → Option (List ℕ) → Result (Unit {0}) EngineFault → Type 0
-TaskOutcome Run options input old new result = Outcome options input old new result
-TaskOutcome Race options input old new result = RaceOutcome options input old new result
+TaskOutcome (Run Text) options input old new result = Outcome options input old new result
+TaskOutcome (Run Json) options input old new result = RunJsonOutcome options input old new result
+TaskOutcome (Race Text) options input old new result = RaceOutcome options input old new result
+TaskOutcome (Race Json) options input old new result = RaceJsonOutcome options input old new result
 TaskOutcome Trace options input old new result = TraceOutcome options input old new result
 
 -- 0 where it is done, else the status of its fault
@@ -47,7 +51,7 @@ IsUnrefused result = Unit {0}
 
 -- The arguments name this task with these options, whose store opens with its tries: `clap` finds no fault in them. The task came to an
 -- outcome of this status, which is never that the store was refused for its requesters or for its tries.
-abbrev pub DoesTask : List Text → Option (List ℕ) → Option (List ℕ) → Option (List ℕ) → ℕ → Type 0
+abbrev pub DoesTask : List walk.Text → Option (List ℕ) → Option (List ℕ) → Option (List ℕ) → ℕ → Type 0
 DoesTask arguments input old new status =
     IsTaken arguments × (task : Task) × (options : Options) × IsChosen arguments (Work task options)
     × (result : Result (Unit {0}) EngineFault)
@@ -70,11 +74,11 @@ EndsAsked (Work task options) input old new status = Ends task options input old
 EndsAsked (Script options) input old new status = Makes options old new status
 
 -- The arguments ask for a script with these options: `clap` finds no fault in them.
-abbrev pub MakesScript : List Text → Option (List ℕ) → Option (List ℕ) → ℕ → Type 0
+abbrev pub MakesScript : List walk.Text → Option (List ℕ) → Option (List ℕ) → ℕ → Type 0
 MakesScript arguments old new status =
     IsTaken arguments × (options : GenerateOptions) × IsChosen arguments (Script options) × Makes options old new status
 
 -- what the program does with its arguments
-abbrev pub ProgramOutcome : List Text → Option (List ℕ) → Option (List ℕ) → Option (List ℕ) → ℕ → Type 0
+abbrev pub ProgramOutcome : List walk.Text → Option (List ℕ) → Option (List ℕ) → Option (List ℕ) → ℕ → Type 0
 ProgramOutcome arguments input old new status =
     ReportsArguments (IsArgumentsFault arguments) old new status ⊎ (DoesTask arguments input old new status ⊎ MakesScript arguments old new status)

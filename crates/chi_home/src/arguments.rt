@@ -5,10 +5,12 @@ ghost use Rattle.chi_engine.specs.Engine.{KeepsUnexecuted, ReportsOpening};
 ghost use Rattle.chi_home.specs.ProgramStatus.{IsStatus};
 ghost use Rattle.chi_home.specs.Task.{Ends, EndsAsked, Makes, ProgramOutcome, TaskOutcome};
 
-use crate::command::{Job, PROGRAM, Task, job_of};
+use crate::command::{Form, Job, PROGRAM, Task, job_of};
 use crate::fault::HomeFault;
 use crate::generation::{GenerateOptions, generate};
-use chi_engine::{EngineFault, Options, engine_race, engine_run, engine_trace};
+use chi_engine::{
+    EngineFault, Options, engine_race, engine_race_json, engine_run, engine_run_json, engine_trace,
+};
 use chi_history::NoGate;
 use chi_program::{flushed_status, report_arguments, report_fault};
 use std::alloc::Global;
@@ -30,8 +32,15 @@ fn do_task<T: AllocGlobal + Threads + Wait + Sync, R: Read, W: Write>(
     ensures unexecuted { KeepsUnexecuted (W.contents to.old) (W.contents to.new) result }
 {
     match task {
-        Task::Run => engine_run(rt, from, to, options),
-        Task::Race => engine_race(rt, from, to, options, NoGate, NoGate, NoGate, NoGate),
+        Task::Run(Form::Text) => engine_run(rt, from, to, options),
+        Task::Run(Form::Json) => engine_run_json(rt, from, to, options),
+        Task::Race(Form::Text) => engine_race(
+            rt, from, to, options, NoGate, NoGate, NoGate, NoGate,
+        ),
+        Task::Race(Form::Json) => {
+            let gates: Vec<NoGate> = Vec::new(rt.alloc());
+            engine_race_json(rt, from, to, options, gates)
+        }
         Task::Trace => engine_trace(rt, from, to, options),
     }
 }

@@ -6,7 +6,7 @@ ghost use Rattle.clap.specs.Simple.{app_of};
 ghost use Rattle.clap.specs.Values.{kind_of};
 ghost use Rattle.clap.specs.Walk.{rows_of};
 ghost use Rattle.chi_engine.specs.Store.{Opens};
-ghost use Rattle.chi_home.specs.OptionValues.{HasAttempts, HasOptions, IsChosen, IsNamed, IsNamedFirst, attempts_of, options_of_task, policy_of, store_of, task_named, workers_of};
+ghost use Rattle.chi_home.specs.OptionValues.{HasAttempts, HasOptions, IsChosen, IsNamed, IsNamedFirst, attempts_of, form_of, options_of_task, policy_of, store_of, task_named, workers_of};
 ghost use Rattle.chi_home.specs.CommandLine.{IsProgram, IsTaken, IsArgumentsFault};
 
 use crate::generation::{GenerateOptions, generate_options};
@@ -19,11 +19,18 @@ use clap::error::ErrorKind;
 use clap::{ArgMatches, Command, Error};
 use std::alloc::Global;
 
+/// How a transcript is written: line by line, or as a JSON object.
+#[derive(Clone, Copy)]
+pub enum Form {
+    Text,
+    Json,
+}
+
 /// What is done with a script: its requests are executed one after another, for a transcript or for a trace, or raced.
 #[derive(Clone, Copy)]
 pub enum Task {
-    Run,
-    Race,
+    Run(Form),
+    Race(Form),
     Trace,
 }
 
@@ -112,8 +119,8 @@ fn chosen_options(task: Task, chosen: &ArgMatches<'_>) -> Options
     ensures { result ≡ options_of_task task (rows_of (found_of chosen.now)) }
 {
     let workers = match task {
-        Task::Run | Task::Trace => Workers::TWO,
-        Task::Race => chosen_workers(chosen),
+        Task::Run(_) | Task::Trace => Workers::TWO,
+        Task::Race(_) => chosen_workers(chosen),
     };
     Options {
         store: chosen_store(chosen),
@@ -122,16 +129,27 @@ fn chosen_options(task: Task, chosen: &ArgMatches<'_>) -> Options
     }
 }
 
+// How a transcript is written.
+fn chosen_form(chosen: &ArgMatches<'_>) -> Form
+    ensures { result ≡ form_of (rows_of (found_of chosen.now)) }
+{
+    if has_word(chosen, "format", "json") {
+        Form::Json
+    } else {
+        Form::Text
+    }
+}
+
 // The task of this name, with its options.
 fn chosen_task(name: &str, chosen: &ArgMatches<'_>) -> Task
     ensures { result ≡ task_named name.now (rows_of (found_of chosen.now)) }
 {
     if name == "race" {
-        Task::Race
+        Task::Race(chosen_form(chosen))
     } else if is_switched(chosen, "trace") {
         Task::Trace
     } else {
-        Task::Run
+        Task::Run(chosen_form(chosen))
     }
 }
 

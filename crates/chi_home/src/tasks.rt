@@ -27,11 +27,18 @@ const POLICY: NamedOption<'static> = NamedOption {
     help: "After RetryAck: send again on the credit, or give it back",
 };
 
+const FORMAT: NamedOption<'static> = NamedOption {
+    name: "format",
+    takes: Takes::ValueOr("FORMAT", ValueParser::Names(&["text", "json"]), "text"),
+    help: "json: writes the transcript as a JSON object",
+};
+
 // The options of `run`, which may be asked for a trace too.
-const RUN: [NamedOption<'static>; 4] = [
+const RUN: [NamedOption<'static>; 5] = [
     STORE,
     ATTEMPTS,
     POLICY,
+    FORMAT,
     NamedOption {
         name: "trace",
         takes: Takes::Nothing,
@@ -40,10 +47,11 @@ const RUN: [NamedOption<'static>; 4] = [
 ];
 
 // The options of `race`, which has its workers too.
-const RACE: [NamedOption<'static>; 4] = [
+const RACE: [NamedOption<'static>; 5] = [
     STORE,
     ATTEMPTS,
     POLICY,
+    FORMAT,
     NamedOption {
         name: "workers",
         takes: Takes::ValueOr("WORKERS", ValueParser::Signed(1, 7), "2"),

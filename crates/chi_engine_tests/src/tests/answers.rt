@@ -2,7 +2,10 @@
 
 use crate::tests::comparison::assert_same;
 use crate::tests::scripts::{BOOK, joined, script};
-use chi_engine::{EngineFault, Options, engine_race, engine_run, engine_trace, status_of};
+use chi_engine::{
+    EngineFault, Options, engine_race, engine_race_json, engine_run, engine_run_json, engine_trace,
+    status_of,
+};
 use chi_history::NoGate;
 use chi_script::ScriptFault;
 use std::io::{Read, Write};
@@ -16,10 +19,12 @@ use std::thread::Threads;
 pub(crate) enum Engine {
     Run,
     Race,
+    RunJson,
+    RaceJson,
     Trace,
 }
 
-// Those that write transcripts.
+// Those that write transcripts as text.
 pub(crate) const ENGINES: [Engine; 2] = [Engine::Run, Engine::Race];
 
 // A run with its transcript or with its trace, or a race without gates.
@@ -33,6 +38,11 @@ pub(crate) fn execute<T: AllocGlobal + Threads + Wait + Sync, R: Read, W: Write>
     match engine {
         Engine::Run => engine_run(rt, from, to, options),
         Engine::Race => engine_race(rt, from, to, options, NoGate, NoGate, NoGate, NoGate),
+        Engine::RunJson => engine_run_json(rt, from, to, options),
+        Engine::RaceJson => {
+            let gates: Vec<NoGate> = Vec::new(rt.alloc());
+            engine_race_json(rt, from, to, options, gates)
+        }
         Engine::Trace => engine_trace(rt, from, to, options),
     }
 }

@@ -2,9 +2,10 @@
 
 use crate::tests::comparison::assert_same;
 use crate::tests::scripts::{ADDS, SEVEN_ZEROS, script};
-use chi_engine::{EngineFault, Options, Store, Workers, engine_race};
+use chi_engine::{EngineFault, Options, Store, Workers, engine_race, engine_race_json};
 use chi_history::{Gate, NoGate};
 use chi_requester::Policy;
+use std::alloc::AllocError;
 use std::process::Abort;
 use std::sync::Wait;
 use std::sync::atomic::{AtomicU64, Ordering};
@@ -134,4 +135,42 @@ fn one_retry_by_two_gates(rt: HostRuntime) -> Result<(), Fail> {
         "0200000000000000",
     )?;
     assert_late(&rt, Store::Lock, "comp", "0300000000000000")
+}
+
+// The line of an add as JSON, with what became of it.
+fn add_told(rt: &impl AllocGlobal, src: u8, txn: u8, outcome: &str) -> Result<String, AllocError> {
+    format!(in rt.alloc();
+        "{{\"addr\":4096,\"be\":255,\"endian\":0,\"lanes\":\"01000000000000000000000000000000\",\"name\":\"AtomicStore.ADD\",\
+\"op\":40,{outcome},\"size\":3,\"src\":{src},\"txn\":{txn}}}"
+    )
+}
+
+// What is written of these three as JSON, where the first is answered by a retry.
+fn retry_told(rt: &impl AllocGlobal) -> Result<String, AllocError> {
+    let first = add_told(rt, 1, 1, "\"retry\":true")?;
+    let second = add_told(rt, 2, 2, "\"reply\":\"comp\"")?;
+    let third = add_told(rt, 2, 3, "\"reply\":\"comp\"")?;
+    let zero = "0000000000000000";
+    format!(in rt.alloc();
+        "{{\"base\":4096,\"final\":\"0200000000000000{zero}{zero}{zero}{zero}{zero}{zero}{zero}\",\"granules\":8,\"requests\":[{first},{second},{third}]}}"
+    )
+}
+
+#[test]
+fn one_retry_as_json(rt: HostRuntime) -> Result<(), Fail> {
+    let text = script(&rt, &[ADDS[0], ADDS[1], SECOND_ADD_OF_TWO])?;
+    let want = retry_told(&rt)?;
+    let options = Options {
+        store: Store::Book { attempts: 1 },
+        policy: Policy::Return,
+        workers: Workers::TWO,
+    };
+    let pauses = Pauses::none();
+    let mut gates = Vec::new(rt.alloc());
+    gates.push(pauses.gate_one(&rt, 2))?;
+    gates.push(pauses.gate_two(&rt, 1))?;
+    let mut to: Vec<u8> = Vec::new(rt.alloc());
+    engine_race_json(&rt, &mut text.as_bytes(), &mut to, &options, gates)?;
+    assert_same(&rt, to.as_slice(), want.as_bytes());
+    Ok(())
 }
