@@ -8,10 +8,11 @@ import tempfile
 
 os.chdir(f"{os.path.dirname(os.path.abspath(__file__))}/..")
 sys.dont_write_bytecode = True
-sys.path.append("page")
+sys.path += ["page", "tests/oracle"]
 
 import cover_sample
 from coverage import counted_as_json
+from histories import told_by_chance
 from process import CHECKER, HOME, build, data_of, end, run, told, trace, wants
 from samples import REASONS, adds, example, refused_request
 
@@ -79,6 +80,7 @@ def counts_as_json():
         ("--events examples/events/two_adds.jsonl", b""),
         ("--flits examples/flits/stale_read.jsonl", b""),
         ("", refusing),
+        *(("--events", text) for text in told_by_chance(200)),
         ("", run(HOME, ["run", "--trace"], run(HOME, ["generate", "--refused", "30"], b"")[1])[1]),
     ]:
         counted_as_json(f"counts: {words}", ["cover", *words.split()], text)
@@ -158,4 +160,4 @@ counts()
 counts_as_json()
 with tempfile.TemporaryDirectory() as folder:
     inputs(folder)
-end(60)
+end(260)
