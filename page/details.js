@@ -29,16 +29,24 @@ function factsOf(trace, place, number) {
     ["requester, transaction", `${op.src}, ${op.txn}`],
     ["opcode", `${op.op.toString(16).padStart(2, "0")} ${op.name}`],
     ["address, size", `${op.addr}, ${op.size}`],
-    ["time", op.end === null ? `from ${op.start} on, no end` : `${op.start} to ${op.end}`],
+    ["time", timeOf(op)],
     ["byte order", op.endian === 1 ? "big-endian" : "little-endian"],
   ];
   if (op.name === "AtomicCompare") facts.push(["compare", withValue(bytes("compare", "sent"))], ["swap", withValue(bytes("swap", "sent"))]);
-  else if (op.name === "WriteNoSnpPtl") facts.push(["written", lanes.filter((lane) => lane.use).map((lane) => (lane.enabled ? lane.sent : "--")).join("")]);
+  else if (op.name === "WriteNoSnpPtl") facts.push(["written", sentOf(op)]);
   else if (op.name !== "ReadNoSnp") facts.push(["operand", withValue(bytes("operand", "sent"))]);
   if (op.reply === null) facts.push(["returned", "no reply was seen"]);
   else if (op.reply === "comp") facts.push(["returned", "comp, no data"]);
   else facts.push(["returned", withValue(bytes(op.name === "AtomicCompare" ? "compare" : "operand", "returned"))]);
   facts.push(["number in the order", number === undefined ? "not in it" : String(number)]);
+  return trace.blame !== null && trace.blame.place === place ? [...facts, ...blameFactsOf(trace.blame, op)] : facts;
+}
+
+// The same about the operation that is blamed: which replies would be legal, and which other answers may be the wrong ones.
+function blameFactsOf({ legal, suspects }, op) {
+  const facts = [];
+  if (legal.length > 0) facts.push(["legal would be", legal.map((reply) => returnedOf({ ...op, reply })).join(" or ")]);
+  if (suspects.length > 1) facts.push(["suspects", `${suspects.join(" ")}: any one of these answers may be the wrong one`]);
   return facts;
 }
 
@@ -83,9 +91,9 @@ function showSteps(panel, drawing, granule, from) {
   const shown = granule.steps.slice(first, first + MOST);
   const rows = shown.map((step, at) => {
     const op = drawing.trace.operations[step.place];
-    const link = element("button", "link", `${op.name} ${op.addr} by ${op.src}`);
+    const link = element("button", "link", `${op.name} ${operandOf(op)}`);
     link.addEventListener("click", () => select(drawing, step.place, false));
-    return [String(first + at + 1), link, makeWord(step.before, step.before), makeWord(step.after, step.before)];
+    return [String(first + at + 1), String(op.request), link, String(op.src), timeOf(op), sentOf(op), returnedOf(op), makeWord(step.before, step.before), makeWord(step.after, step.before)];
   });
   const told = granule.final === null ? "none told" : granule.final;
   panel.replaceChildren(element("h2", "", `The order found: ${granule.steps.length} operations`), element("p", "note", `Word at the opening: ${granule.opening}. Word at the end: ${told}.`));
@@ -97,7 +105,7 @@ function showSteps(panel, drawing, granule, from) {
     }
     panel.append(element("span", "note", ` ${first + 1} to ${first + shown.length}`));
   }
-  const table = makeTable(["number", "operation", "word before", "word after"], rows);
+  const table = makeTable(["number", "request", "operation", "requester", "time", "sent", "returned", "word before", "word after"], rows);
   table.className = "steps";
   shown.forEach((step, at) => table.rows[at + 1].classList.toggle("selected", step.place === drawing.selected));
   panel.append(table);

@@ -63,8 +63,7 @@ function labelOf(drawing, place) {
   const op = drawing.trace.operations[place];
   const mark = { blamed: "blamed, ", open: "open with the blamed one, " }[drawing.marks.get(place)] || "";
   const order = drawing.numbers.has(place) ? `, number ${drawing.numbers.get(place)} in the order` : ", not in the order";
-  const until = op.end === null ? "on" : `to ${op.end}`;
-  return `${mark}${op.name} by requester ${op.src}, from ${op.start} ${until}${order}`;
+  return `${mark}request ${op.request}, ${op.name} by requester ${op.src}, ${timeOf(op)}, ${dataOf(op)}${order}`;
 }
 
 // The bar of one operation, or the block of several.
@@ -80,10 +79,10 @@ function makeBar(drawing, bar, top) {
     return made;
   }
   const place = bar.places[0];
+  const op = drawing.trace.operations[place];
   const mark = drawing.marks.get(place);
   const sign = { blamed: "!", open: "o" }[mark] || "";
-  const number = drawing.numbers.has(place) ? String(drawing.numbers.get(place)) : "-";
-  made.append(element("span", "", `${sign}${number} ${drawing.trace.operations[place].name}`));
+  made.append(element("span", "", `${sign}${op.request} ${op.name} ${dataOf(op)}`));
   made.dataset.place = place;
   made.dataset.count = 1;
   made.title = labelOf(drawing, place);

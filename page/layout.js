@@ -15,11 +15,11 @@ function stepOf([place, before, after]) {
   return { place, before, after };
 }
 
-// What is blamed, by the places of its operations: in the data they stand by the numbers of their requests.
+// What is blamed, by the places of its operations: in the data each stands with the number of its request.
 function blameOf(blame, operations) {
   if (blame === null) return null;
   const places = new Map(operations.map((op, place) => [op.request, place]));
-  return { ...blame, place: places.get(blame.request), open: blame.open.map((request) => places.get(request)) };
+  return { ...blame, place: places.get(blame.blamed.request), open: blame.open.map((op) => places.get(op.request)) };
 }
 
 // The trace that the data are.
@@ -217,11 +217,41 @@ function lanesOf(op) {
   });
 }
 
-// The bytes of some lanes in address order, and the number that they are in the operation's byte order.
+// The bytes of some lanes in address order.
 function textOf(lanes, member) {
   return lanes.map((lane) => lane[member]).join("");
 }
 
+// What was sent for an operation, and what came back, as the rows of an answer have it; a byte that is not enabled is --.
+function sentOf(op) {
+  const used = (use) => lanesOf(op).filter((lane) => lane.use === use);
+  if (op.name === "ReadNoSnp") return "";
+  if (op.name === "AtomicCompare") return `${textOf(used("compare"), "sent")} swap ${textOf(used("swap"), "sent")}`;
+  if (op.name === "WriteNoSnpPtl") return used("operand").map((lane) => (lane.enabled ? lane.sent : "--")).join("");
+  return textOf(used("operand"), "sent");
+}
+
+function returnedOf(op) {
+  if (op.reply === null) return "no reply";
+  return op.reply === "comp" ? "comp" : textOf(lanesOf(op).filter((lane) => lane.returned !== null), "returned");
+}
+
+function dataOf(op) {
+  const sent = op.name === "ReadNoSnp" ? "" : `${op.name === "AtomicCompare" ? "compare" : "sent"} ${sentOf(op)} `;
+  return `${sent}${op.reply === null || op.reply === "comp" ? "" : "returned "}${returnedOf(op)}`;
+}
+
+// Where its operand stands in the granule, and how long that is.
+function operandOf(op) {
+  return `+${parseInt(op.addr[15], 16) % 8} L${op.len}`;
+}
+
+// When an operation was under way.
+function timeOf(op) {
+  return op.end === null ? `from ${op.start} on` : `${op.start} to ${op.end}`;
+}
+
+// The number that bytes are in the operation's byte order.
 function valueOf(op, digits) {
   const bytes = bytesOf(digits);
   return BigInt("0x" + (op.endian === 1 ? bytes : bytes.reverse()).join(""));
@@ -233,5 +263,5 @@ function listedGranules(granules) {
 }
 
 if (typeof module !== "undefined") {
-  module.exports = { OPEN, barsOf, columnOf, granuleOf, lanesOf, listedGranules, panned, placesByGranule, rangeOf, rowsOf, spansOf, textOf, ticksOf, valueOf, traceOf, viewBefore, zoomed };
+  module.exports = { OPEN, barsOf, columnOf, dataOf, granuleOf, lanesOf, listedGranules, operandOf, panned, placesByGranule, rangeOf, returnedOf, rowsOf, sentOf, spansOf, textOf, ticksOf, timeOf, valueOf, traceOf, viewBefore, zoomed };
 }

@@ -3,7 +3,7 @@
 
 const assert = require("node:assert");
 const test = require("node:test");
-const { OPEN, barsOf, columnOf, granuleOf, lanesOf, listedGranules, panned, placesByGranule, rangeOf, rowsOf, spansOf, textOf, ticksOf, traceOf, valueOf, viewBefore, zoomed } = require("./layout.js");
+const { OPEN, barsOf, columnOf, dataOf, granuleOf, lanesOf, listedGranules, operandOf, panned, placesByGranule, rangeOf, returnedOf, rowsOf, sentOf, spansOf, textOf, ticksOf, timeOf, traceOf, valueOf, viewBefore, zoomed } = require("./layout.js");
 
 const NO_LANES = "00".repeat(16);
 
@@ -115,6 +115,25 @@ test("byte enables and lanes of a write", () => {
   const lanes = lanesOf(operation(1, 0, 1, { name: "WriteNoSnpPtl", addr: "0000000000001008", be: 0x0300, lanes: "00".repeat(8) + "0102030405060708", reply: "comp" }));
   assert.deepEqual(lanes.filter((lane) => lane.enabled).map((lane) => [lane.lane, lane.addr, lane.sent]), [[8, "0000000000001008", "01"], [9, "0000000000001009", "02"]]);
   assert.equal(lanes[8].returned, null);
+});
+
+test("what was sent and returned stands as in the rows of an answer", () => {
+  const told = (name, more) => dataOf(operation(1, 0, 1, { name, addr: "000000000000100c", len: 2, lanes: "000102030405060708090a0b0c0d0e0f", ...more }));
+  const back = { reply: "00".repeat(12) + "a1a2" + "0000" };
+  assert.equal(told("ReadNoSnp", back), "returned a1a2");
+  assert.equal(told("ReadNoSnp", {}), "no reply");
+  assert.equal(told("WriteNoSnpPtl", { be: 0x2000, reply: "comp" }), "sent --0d comp");
+  assert.equal(told("AtomicStore.ADD", { reply: "comp" }), "sent 0c0d comp");
+  assert.equal(told("AtomicSwap", back), "sent 0c0d returned a1a2");
+  assert.equal(told("AtomicCompare", back), "compare 0c0d swap 0e0f returned a1a2");
+  assert.equal(sentOf(operation(1, 0, 1, {})), "");
+  assert.equal(operandOf(operation(1, 0, 1, { addr: "000000000000100c", len: 2 })), "+4 L2");
+  assert.equal(returnedOf(operation(1, 0, 1, { reply: "comp" })), "comp");
+});
+
+test("when an operation was under way", () => {
+  assert.equal(timeOf(operation(1, 10, 20)), "10 to 20");
+  assert.equal(timeOf(operation(1, 10, null)), "from 10 on");
 });
 
 test("a value is read in the operation's byte order", () => {

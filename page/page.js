@@ -1,7 +1,7 @@
 // The page: the list of granules, the drawing of the one that is chosen, and what is shown beside it.
 
 const SIGNS = { "not explained": "x", undecided: "?", explained: "=" };
-const LEGEND = "! blamed   o open with the blamed one   N number in the order found   - not in that order   ragged right edge: no end was seen   hatched: several operations, zoom in";
+const LEGEND = "N its request or line, as in the answer   ! blamed   o open with the blamed one   dotted: not in the order found   ragged right edge: no end was seen   hatched: several operations, zoom in";
 const HELP = "Keys: arrows go from operation to operation, + and - zoom, < and > move in time, PageUp and PageDown by a whole view, 0 shows all, Enter shows the packet. Mouse: wheel zooms, Shift and wheel or dragging moves, Alt and wheel scrolls the rows.";
 
 // What is said of the whole trace.

@@ -37,7 +37,8 @@ def lost_update():
     compare = operation(4, 3, "AtomicCompare", 57, 0x2004, 5, 25, "00" * 4 + "0700" + "00" * 10, lanes="00" * 4 + "0700aabb" + "00" * 8, size=2, length=2, be=0xF0, endian=1)
     ops = [compare, addition(0, 1, 10, 20, "00" * 8), operation(5, 4, "WriteNoSnpPtl", 28, 0x3000, 15, 30, "comp", lanes="0102030405060708" + "00" * 8, be=0x0F),
            addition(1, 2, 30, 40, "00" * 8), operation(2, 3, "ReadNoSnp", 4, 0x1008, 35, None, None), addition(3, 1, 50, 60, None)]
-    blame = {"granule": f"{0x1008:016x}", "time": "40", "request": 1, "open": [1, 2], "words": ["0200000000000000", "0100000000000000"]}
+    blame = {"granule": f"{0x1008:016x}", "time": "40", "blamed": {"request": 1}, "suspects": [1, 3], "open": [{"request": 1}, {"request": 2}],
+             "words": ["0200000000000000", "0100000000000000"], "legal": ["00" * 8 + "0100000000000000"]}
     granules = [granule(0x1008, "not explained", [step(1, 0, 1)]), granule(0x2000, "explained", [step(0, 0x0007 << 32, 0xBBAA << 32)], final="00000000aabb0000"),
                 granule(0x3000, "undecided", [])]
     return {"blame": blame, "granules": granules, "operations": ops}
@@ -55,7 +56,8 @@ def many(count, granules, blamed=False):
     if blamed:
         place = count // 2
         drawn[0] = granule(0x1008, "not explained", steps[0][:place])
-        blame = {"granule": f"{0x1008:016x}", "time": ops[place]["end"], "request": ops[place]["request"], "open": [op["request"] for op in ops[place:place + 4]], "words": None}
+        blame = {"granule": f"{0x1008:016x}", "time": ops[place]["end"], "blamed": {"request": ops[place]["request"]}, "suspects": [ops[place]["request"]],
+                 "open": [{"request": op["request"]} for op in ops[place:place + 4]], "words": None, "legal": []}
     return {"blame": blame, "granules": drawn, "operations": ops}
 
 

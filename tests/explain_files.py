@@ -50,7 +50,9 @@ def pages(folder):
         shown = {it["granule"]: it["finding"] for it in data["granules"]}
         told(f"{name}: {shown}", {it: shown.get(it) for it in findings} == findings)
         told(f"{name}: its operations", len(data["operations"]) == len(json.loads(text)["requests"]))
-        told(f"{name}: blamed {data['blame']}", (data["blame"] and data["blame"]["request"]) == blamed)
+        told(f"{name}: blamed {data['blame']}", (data["blame"] and data["blame"]["blamed"]["request"]) == blamed)
+        answer = json.loads(both[0][1])
+        told(f"{name}: blamed otherwise than as JSON: {answer}", all(answer[member] == it for member, it in (data["blame"] or {}).items()))
         os.remove(path)
     found = run(CHECKER, ["explain", "--html", f"{folder}/none/page.html"], example("two_adds"))
     told(f"a page that cannot be written: {found}", found == (5, b"", b"chicheck: page could not be written\n"))

@@ -2,6 +2,7 @@
 
 use crate::comparison::assert_same;
 use chi_judge::{Standing, Stop};
+use chi_lanes::Reply;
 use chi_page::{Drawn, add_page, are_of_trace};
 use chi_reading::read_trace;
 use chi_search::Words;
@@ -19,8 +20,15 @@ const LOST_UPDATE: &str = r#"{"image": [{"addr": 4104, "bytes": "000000000000000
     {"src": 3, "txn": 8, "op": 28, "size": 1, "addr": 4110, "endian": 1, "be": 49152,
      "lanes": "00000000000000000000000000000506", "start": 35}]}"#;
 
-const DATA: &str =
-    r#"{"blame":{"granule":"0000000000001008","time":"40","request":0,"open":[0,2],"words":["0100000000000000","0100000000000506"]},
+// The addition that is blamed, and the write.
+const SECOND: &str =
+    r#"{"request":0,"src":2,"txn":7,"op":48,"name":"AtomicLoad.ADD","size":3,"addr":"0000000000001008","endian":0,"be":65280,"lanes":"00000000000000000100000000000000","start":"30","end":"40","reply":"00000000000000000000000000000000"}"#;
+
+const OPEN: &str =
+    r#"{"request":2,"src":3,"txn":8,"op":28,"name":"WriteNoSnpPtl","size":1,"addr":"000000000000100e","endian":1,"be":49152,"lanes":"00000000000000000000000000000506","start":"35","end":null,"reply":null}"#;
+
+// What follows where the trace stops being explained.
+const DATA: &str = r#",
 "granules":[{"granule":"0000000000001008","finding":"not explained","opening":"0000000000000000","final":null,"steps":[[0,"0000000000000000","0100000000000000"],
 [2,"0100000000000000","0100000000000506"]]},
 {"granule":"0000000000002000","finding":"undecided","opening":"0000000000000000","final":null,"steps":[]}],
@@ -65,10 +73,19 @@ fn blame(alloc: Global, ops: &[Operation]) -> Result<Blame, Fail> {
             words: Words::Each(Vec::from_slice(alloc, &[1, 0x0605_0000_0000_0001])?),
             before: Vec::new(alloc),
             order: Vec::new(alloc),
-            legal: Vec::new(alloc),
+            legal: Vec::from_slice(alloc, &[Reply::Comp])?,
         },
         order: Vec::from_slice(alloc, &[0, 2])?,
     })
+}
+
+// Where the trace stops being explained, as the page has it.
+fn blame_told(alloc: Global) -> Result<String, AllocError> {
+    let (second, open) = (SECOND, OPEN);
+    format!(in alloc;
+        "{{\"blame\":{{\"granule\":\"0000000000001008\",\"time\":\"40\",\"blamed\":{second},\"suspects\":[0],\"open\":[{second},{open}],\
+\"words\":[\"0100000000000000\",\"0100000000000506\"],\"legal\":[\"comp\"]}}"
+    )
 }
 
 #[test]
@@ -83,6 +100,8 @@ fn data_of_a_lost_update(rt: HostRuntime) -> Result<(), Fail> {
     let mut page = Vec::new(alloc);
     add_page(&mut page, &recorded, &granules, Some(&blame))?;
     let page = String::from_utf8(page)?;
+    let told = blame_told(alloc)?;
+    assert_same(&rt, page.contains(told.as_str()), true);
     assert_same(&rt, page.contains(DATA), true);
     assert_same(&rt, page.starts_with("<!DOCTYPE html>\n"), true);
     assert_same(&rt, page.ends_with("</html>\n"), true);

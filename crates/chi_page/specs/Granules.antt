@@ -6,7 +6,6 @@ use Rattle.chi_text.specs.Part.{address_text, word_text}
 use Rattle.chi_trace.specs.Explains.{at}
 use Rattle.chi_trace.specs.declared.operation.Operation.{Operation}
 use Rattle.chi_trace.specs.Granules.{last_word}
-use Rattle.chi_verdict.specs.declared.first.Blame.{Blame}
 use Rattle.chi_trace.specs.Words.{find_word, word_or_zero}
 use Rattle.chi_reading.specs.TraceText.{RecordedValue}
 use Rattle.chi_page.specs.declared.drawn.Drawn.{Drawn}
@@ -80,17 +79,6 @@ each_word_json words = listed comma (λ n. word_json (slice_index words n)) (len
 unfoldable pub words_json : Words → List ℕ
 words_json (Each words) = codes "[" ++ (each_word_json words.items ++ codes "]")
 words_json Unknown = codes "null"
-
--- where the trace stops being explained
-unfoldable pub blame_json : Blame → List ℕ
-blame_json blame =
-    codes "{\"granule\":" ++ (granule_json blame.granule ++ (codes ",\"time\":\"" ++ (decimal blame.stop.time ++ (codes "\",\"request\":" ++ (decimal blame.stop.op.number
-    ++ (codes ",\"open\":[" ++ (requests_json blame.stop.overlapping.items ++ (codes "],\"words\":" ++ (words_json blame.stop.words ++ codes "}")))))))))
-
--- the same, or null where it does not
-unfoldable pub blamed_json : Option Blame → List ℕ
-blamed_json None = codes "null"
-blamed_json (Some blame) = blame_json blame
 
 -- each order has places of the trace
 abbrev pub AreOfTrace : RecordedValue → List Drawn → Type 0

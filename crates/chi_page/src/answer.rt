@@ -4,8 +4,9 @@ ghost use Rattle.std.specs.Prelude.{◌≡◌, ◌<◌, ◌++◌, All, IfOk, OnO
 ghost use Rattle.chi_answer.specs.Answers.{IsAnswer};
 ghost use Rattle.chi_page.specs.Answers.{answer_json, at_end_json, explained_json, undecided_json, witness_json};
 
-use crate::reach::{add_end, add_undecided};
-use crate::stopped::{add_cut_short, add_numbers, add_stopped, add_unexplained};
+use crate::stopped::{
+    add_cut_short, add_numbers, add_stopped, add_undecided, add_unexplained, add_words_at_end,
+};
 use chi_answer::Answer;
 use chi_reading::Recorded;
 use chi_search::Words;
@@ -63,7 +64,7 @@ fn add_at_end(
     ensures { OnOk result (to.new.items ≡ to.old.items ++ at_end_json granule final_word words.now cut_short) }
 {
     add_unexplained(to, granule)?;
-    add_end(to, final_word, words)?;
+    add_words_at_end(to, final_word, words)?;
     add_cut_short(to, cut_short)
 }
 

@@ -10,6 +10,7 @@ mod drawn;
 mod granule;
 mod layout_script;
 mod listed;
+mod lists;
 mod moving_script;
 mod object;
 mod operation;

@@ -1,55 +1,16 @@
 //! A granule of lines that are watched as JSON: how far it can be explained.
 
 ghost use Rattle.std.specs.Prelude.{◌≡◌, ◌++◌, OnOk};
-ghost use Rattle.chi_page.specs.Answers.{end_members, undecided_members};
 ghost use Rattle.chi_page.specs.Reaches.{doubt_json, found_json, line_json, reach_members};
 
-use crate::blame::add_words;
-use crate::granule::{add_granule, add_told};
-use crate::stopped::{add_before, add_cut_short, add_known, add_stop, add_unexplained};
+use crate::stopped::{
+    add_before, add_cut_short, add_stop, add_undecided, add_unexplained, add_words_at_end,
+};
 use chi_judge::Reach;
 use chi_search::Words;
 use chi_text::Part::{Number, Text};
 use chi_text::add_parts;
 use std::alloc::AllocError;
-
-/// The word of a granule that was told at the end, and the words that it can hold.
-#[tactic(auto, unfolding(crate::specs::Answers::end_members))]
-pub(crate) fn add_end(
-    to: &mut Vec<u8>,
-    final_word: Option<u64>,
-    words: &Words,
-) -> Result<(), AllocError>
-    ensures { OnOk result (to.new.items ≡ to.old.items ++ end_members final_word words.now) }
-{
-    add_parts(to, &[Text(",\"at_end\":")])?;
-    add_told(to, final_word)?;
-    add_parts(to, &[Text(",\"words\":")])?;
-    add_words(to, words)
-}
-
-/// A granule that was not decided, after so many states, and the time up to which it is explained, which begins the object.
-#[tactic(auto, unfolding(crate::specs::Answers::undecided_members))]
-pub(crate) fn add_undecided(
-    to: &mut Vec<u8>,
-    granule: u64,
-    states: u64,
-    explained: Option<u64>,
-) -> Result<(), AllocError>
-    ensures { OnOk result (to.new.items ≡ to.old.items ++ undecided_members granule states explained) }
-{
-    add_parts(to, &[Text("{\"answer\":\"undecided\",\"granule\":")])?;
-    add_granule(to, granule)?;
-    add_parts(
-        to,
-        &[
-            Text(",\"states\":\""),
-            Number(states),
-            Text("\",\"explained_to\":"),
-        ],
-    )?;
-    add_known(to, explained)
-}
 
 /// The number of a line, or null where there is none.
 #[tactic(auto, unfolding(crate::specs::Reaches::line_json))]
@@ -67,12 +28,12 @@ fn add_reach(to: &mut Vec<u8>, final_word: Option<u64>, reach: &Reach) -> Result
     ensures { OnOk result (to.new.items ≡ to.old.items ++ reach_members final_word reach.now) }
 {
     match reach {
-        Reach::Whole(words) => add_end(to, final_word, words),
+        Reach::Whole(words) => add_words_at_end(to, final_word, words),
         Reach::Stops(stop) => {
             add_stop(to, stop)?;
             add_before(to, stop, &stop.order, None)
         }
-        Reach::Undecided => add_end(to, final_word, &Words::Unknown),
+        Reach::Undecided => add_words_at_end(to, final_word, &Words::Unknown),
     }
 }
 

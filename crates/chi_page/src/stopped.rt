@@ -1,15 +1,16 @@
-//! Where a trace stops being explained, as the members of a JSON object.
+//! How far a granule is explained, as the members of a JSON object.
 
 ghost use Rattle.std.specs.Prelude.{◌≡◌, ◌<◌, ◌++◌, All, IfOk, OnOk, length};
 ghost use Rattle.chi_excerpt.specs.Failures.{last_operations, order_in};
-ghost use Rattle.chi_page.specs.Answers.{before_members, cut_short_json, granule_members, known_json, numbers_json, stop_members, stopped_json, to_the_end_json};
+ghost use Rattle.chi_page.specs.Answers.{before_members, cut_short_json, end_members, granule_members, known_json, numbers_json, stop_members, stopped_json, to_the_end_json, undecided_members};
 
-use crate::blame::{add_requests, add_words};
-use crate::granule::add_granule;
+use crate::granule::{add_granule, add_told};
+use crate::lists::{add_requests, add_words};
 use crate::object::{add_object, add_objects, add_replies};
 use chi_excerpt::order_in;
 use chi_judge::Stop;
 use chi_reading::Recorded;
+use chi_search::Words;
 use chi_text::Part::{Number, Text};
 use chi_text::add_parts;
 use chi_trace::{Operation, operations_at};
@@ -108,6 +109,44 @@ pub(crate) fn add_before(
     add_replies(to, &stop.legal)?;
     add_parts(to, &[Text(",\"legal_to_the_end\":")])?;
     add_to_the_end(to, to_the_end)
+}
+
+/// The word of a granule that was told at the end, and the words that it can hold.
+#[tactic(auto, unfolding(crate::specs::Answers::end_members))]
+pub(crate) fn add_words_at_end(
+    to: &mut Vec<u8>,
+    final_word: Option<u64>,
+    words: &Words,
+) -> Result<(), AllocError>
+    ensures { OnOk result (to.new.items ≡ to.old.items ++ end_members final_word words.now) }
+{
+    add_parts(to, &[Text(",\"at_end\":")])?;
+    add_told(to, final_word)?;
+    add_parts(to, &[Text(",\"words\":")])?;
+    add_words(to, words)
+}
+
+/// A granule that was not decided, after so many states, and the time up to which it is explained, which begins the object.
+#[tactic(auto, unfolding(crate::specs::Answers::undecided_members))]
+pub(crate) fn add_undecided(
+    to: &mut Vec<u8>,
+    granule: u64,
+    states: u64,
+    explained: Option<u64>,
+) -> Result<(), AllocError>
+    ensures { OnOk result (to.new.items ≡ to.old.items ++ undecided_members granule states explained) }
+{
+    add_parts(to, &[Text("{\"answer\":\"undecided\",\"granule\":")])?;
+    add_granule(to, granule)?;
+    add_parts(
+        to,
+        &[
+            Text(",\"states\":\""),
+            Number(states),
+            Text("\",\"explained_to\":"),
+        ],
+    )?;
+    add_known(to, explained)
 }
 
 /// The last so many operations of an order.

@@ -34,7 +34,7 @@ button { font: inherit; color: inherit; background: white; border: 1px solid gra
 .bar.unordered { background: white; border-style: dotted; }
 .bar.block { border-color: gray; background: repeating-linear-gradient(45deg, gray 0 2px, white 2px 5px); }
 .bar.open { border: 2px dashed black; background: moccasin; line-height: 18px; }
-.bar.blamed { border: 4px double black; background: lightcoral; font-weight: bold; line-height: 14px; z-index: 1; }
+.bar.blamed { border: 4px double black; background: lightcoral; font-weight: bold; line-height: 14px; z-index: 1; overflow: visible; }
 .bar.endless { border-right: none; clip-path: polygon(0 0, 100% 0, calc(100% - 5px) 25%, 100% 50%, calc(100% - 5px) 75%, 100% 100%, 0 100%); }
 .bar.selected { box-shadow: inset 0 0 0 2px black; z-index: 2; }
 .bar:focus { outline: 3px solid black; outline-offset: 0; z-index: 3; overflow: visible; }
@@ -45,6 +45,7 @@ dd { margin: 0; font-family: monospace; overflow-wrap: anywhere; }
 table { border-collapse: collapse; margin: 6px 0; }
 th, td { padding: 1px 6px; border: 1px solid lightgray; text-align: left; font-weight: normal; }
 .packet .used { border: 2px solid black; font-weight: bold; }
+.steps td { white-space: nowrap; }
 .steps tr.selected { outline: 2px solid black; }
 .word b { text-decoration: underline; }
 .link { padding: 0; border: none; text-decoration: underline; font-family: monospace; }

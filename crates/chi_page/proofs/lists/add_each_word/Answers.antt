@@ -5,7 +5,7 @@ use Rattle.chi_page.specs.Granules.{each_word_json}
 use Rattle.std.specs.Prelude.{slice_index}
 use Rattle.chi_page.specs.Granules.{word_json}
 use Rattle.chi_page.proofs.Joined.{listed_more}
-use Rattle.chi_page.proofs.blame.add_each_word.Goals as goal
+use Rattle.chi_page.proofs.lists.add_each_word.Goals as goal
 
 pub loop-number-init : goal.loop-number-init
 unfolding listed

@@ -1,7 +1,7 @@
 -- one part after the other
 use Rattle.std.proofs.Common.{append_assoc, append-nil}
 use Rattle.chi_page.specs.Answers.{undecided_members}
-use Rattle.chi_page.proofs.reach.add_undecided.Goals as goal
+use Rattle.chi_page.proofs.stopped.add_undecided.Goals as goal
 
 pub returns : goal.returns
 unfolding undecided_members

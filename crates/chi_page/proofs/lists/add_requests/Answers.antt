@@ -7,7 +7,7 @@ use Rattle.std.proofs.lemmas.List.{get_or_default}
 use Rattle.chi_trace.specs.Explains.{at, nothing}
 use Rattle.chi_trace.specs.declared.operation.Operation.{Operation}
 use Rattle.chi_page.proofs.Joined.{listed_more}
-use Rattle.chi_page.proofs.blame.add_requests.Goals as goal
+use Rattle.chi_page.proofs.lists.add_requests.Goals as goal
 
 pub loop-number-init : goal.loop-number-init
 unfolding listed

@@ -3,7 +3,7 @@ use Rattle.std.proofs.Common.{◌≡◌, ◌++◌}
 use Rattle.chi_page.specs.Listed.{comma, listed}
 use Rattle.std.specs.Prelude.{slice_index}
 use Rattle.chi_page.specs.Granules.{word_json}
-use Rattle.chi_page.proofs.blame.add_each_word.Given as goal
+use Rattle.chi_page.proofs.lists.add_each_word.Given as goal
 
 abbrev pub invariant-loop-number : goal.invariant-loop-number
 invariant-loop-number l = l.to.items ≡ l.initial.to.items ++ listed comma (λ n. word_json (slice_index l.words n)) l.number
