@@ -17,7 +17,7 @@ from process import CHECKER, build, end, run, told, wants
 # Runs that list no granule, each with its words, its events and its status.
 UNLISTED = [
     ("explained", ["watch"], example("two_adds"), 0),
-    ("undecided", ["watch", "--budget", "0"], done(10, 0), 6),
+    ("undecided", ["watch", "--budget", "0"], adds(10, 0) + adds(11, 1) + answers(12, 0, 1) + answers(13, 1, 0), 6),
     ("required and missing", ["watch", "--require-end"], done(10, 0), 1),
     ("a fault", ["watch"], f"{adds(10, 0)}{{\n", 3),
     ("a fault after a granule was found", ["watch", "--keep-going"], LOST + adds(50, 9) + "{\n", 3),

@@ -1,5 +1,5 @@
 -- whether what was told can be explained, by the search that was told all that is kept
-use Rattle.std.proofs.Common.{◌≡◌, ℕ, List, ◌∷◌, [], ◌++◌, None, Some, IfSome, Option, true, false, refl, ◌∙◌}
+use Rattle.std.proofs.Common.{◌≡◌, ℕ, List, ◌∷◌, [], ◌++◌, None, Some, IfSome, Option, true, false, refl, subst, ◌∙◌}
 use Rattle.chi_trace.specs.declared.operation.Operation.{Operation}
 use Rattle.chi_trace.specs.AtPlaces.{GranulesStandAlone}
 use Rattle.chi_trace.specs.Cuts.{cut}
@@ -11,6 +11,7 @@ use Rattle.chi_judge.specs.Judges.{JudgeValue}
 use Rattle.chi_judge.specs.Reaches.{IsJudgeOf}
 use Rattle.chi_judge.specs.Standings.{IsExplainable, IsInexplicable}
 use Rattle.chi_judge.proofs.Earlier.{earlier_explains}
+use Rattle.chi_judge.proofs.Keeping.{told_kept}
 use Rattle.chi_judge.proofs.Leading.{leads_from, leaves_some, moved_cut}
 use Rattle.chi_judge.proofs.Reached.{words_whole}
 
@@ -31,6 +32,13 @@ led_explains law r final_word goes trace g w is led =
     by_last : (o : Option ℕ) {u v : ℕ} → u ≡ v → IfSome o (λ seen. v ≡ seen) → IfSome o (λ seen. u ≡ seen)
     by_last None same is = tt
     by_last (Some seen) same is = same ∙ is
+
+-- where all that was told is known to lead to a word
+pub known_explains : GranulesStandAlone → (r : JudgeValue) (final_word : Option ℕ) → r.is_stopped ≡ false → (v : ℕ) × (r.word ≡ Some v) × IfSome final_word (λ seen. v ≡ seen) → IsExplainable r final_word
+known_explains law r final_word goes known trace g w is =
+    let led : SomeLeads is.told (w ∷ []) known.0 = subst (λ (o : Option ℕ). IfSome o (SomeLeads is.told (w ∷ []))) known.1 (is.keeps.known goes) in
+    let of_parts = subst (λ (l : List Operation). SomeLeads l (w ∷ []) known.0) (told_kept (w ∷ []) is.told is.now r is.keeps goes) led in
+    led_explains law r final_word goes trace g w is (known.0, of_parts, known.2)
 
 -- the search was told those that are kept
 module _ (law : GranulesStandAlone) (r : JudgeValue) (final_word : Option ℕ) (after : FrontierValue) (goes : r.is_stopped ≡ false)

@@ -49,7 +49,7 @@ within_before time ops all = All-cut_before LiesWithin (λ op is. is) time ops a
 
 -- once it keeps only what had happened before a time
 abbrev pub cut_short : ℕ → JudgeValue → JudgeValue
-cut_short time r = record r { kept = cut_before time r.kept; ahead = []; seen = 0 }
+cut_short time r = record r { kept = cut_before time r.kept; ahead = []; seen = 0; word = None }
 
 pub judge_cut : (time : ℕ) (r : JudgeValue) → IsJudge r → IsJudge (cut_short time r)
 judge_cut time r is = record {
@@ -88,6 +88,7 @@ module _ (words : List ℕ) (told : List Operation) (now time : ℕ) (r : JudgeV
     explained = λ early is.
         let led = k.explained early is in
         (led.0, subst (λ (l : List Operation). SomeLeads l words led.0) (sym (cut_before_again early time told (omega (arith, is, k.since_by, late)))) led.1);
+    known = λ _. tt;
     stopped = λ so.
         let none = k.stopped so in
         (none.0, none.1, λ v leads. none.2 v (subst (λ (l : List Operation). SomeLeads l words v) (cut_before_again none.0 time told (omega (arith, none.1, late))) leads));

@@ -1,6 +1,7 @@
 -- operations that are kept: one more, and fewer
-use Rattle.std.proofs.Common.{◌≡◌, ℕ, ◌+◌, ◌-◌, ◌<◌, ◌≤◌, Bool, true, false, List, [], ◌∷◌, ◌++◌, All, IsTrue, get_or, get_or-drop, length, length-append, length-drop, take, drop, append_assoc, append-nil, refl, sym, ap, subst, ◌∙◌, arith, true≢false}
+use Rattle.std.proofs.Common.{◌≡◌, ℕ, ◌+◌, ◌-◌, ◌<◌, ◌≤◌, ◌⊎◌, inl, inr, Bool, true, false, List, [], ◌∷◌, ◌++◌, All, IfSome, IsTrue, Option, Some, get_or, get_or-drop, length, length-append, length-drop, take, drop, append_assoc, append-nil, refl, sym, ap, subst, ◌∙◌, arith, true≢false}
 use Rattle.std.proofs.lemmas.List.{get_or_default, take-append-drop, take-append-le, take_all}
+use Rattle.std.proofs.lemmas.Option.{IfSome_then}
 use Rattle.std.proofs.lemmas.List.Elements.{All-append, All-cons, All-drop, All-nil, All-push, All-take, All-weaker}
 use Rattle.chi_trace.specs.declared.operation.Operation.{Operation}
 use Rattle.chi_trace.specs.Cuts.{cut}
@@ -9,8 +10,10 @@ use Rattle.chi_trace.specs.Segments.{AreLasting}
 use Rattle.chi_search.specs.Frontiers.{CanBeTold, Follows, FrontierValue, GoesAlong, MayBeTold}
 use Rattle.chi_search.specs.Layers.{SomeLeads}
 use Rattle.chi_search.proofs.Telling.{sorted_after, sorted_one}
-use Rattle.chi_judge.specs.Judges.{CanBeKept, EndedBefore, EndedWithin, IsJudge, IsNextHorizon, Keeps, LiesWithin, JudgeValue}
+use Rattle.chi_judge.specs.Judges.{CanBeKept, EndedBefore, EndedWithin, IsJudge, IsNextHorizon, JudgeValue, Keeps, LeadsBy, LeadsTo, Leaves, LiesWithin}
 use Rattle.chi_judge.specs.Shown.{EndsNoLater, last_of}
+use Rattle.chi_trace.proofs.AfterQuiet.{MayStandBefore}
+use Rattle.chi_judge.proofs.KnownWord.{still_known}
 use Rattle.chi_judge.proofs.Cutting.{EndedBy, cut-append, cut_later, cut_whole}
 use Rattle.chi_judge.proofs.Last.{last_more, pairs_append, pairs_by_end, pairs_take}
 
@@ -33,11 +36,11 @@ cut_parts time since earlier ops later le ended late =
     whole = cut_whole time earlier (All-weaker (EndedBefore since) (EndedBy time) (λ op e. (e.0, omega (arith, e.1, le))) earlier ended)
 
 -- once one operation more is kept
-abbrev pub with_one : JudgeValue → Operation → JudgeValue
-with_one r t = record r { kept = r.kept ++ t ∷ []; latest = t.end }
+abbrev pub with_one : JudgeValue → Operation → Option ℕ → JudgeValue
+with_one r t word = record r { kept = r.kept ++ t ∷ []; word = word; latest = t.end }
 
-pub judge_one : (r : JudgeValue) (t : Operation) → IsJudge r → CanBeKept r t → IsJudge (with_one r t)
-judge_one r t is can = record {
+pub judge_one : (r : JudgeValue) (t : Operation) (word : Option ℕ) → IsJudge r → CanBeKept r t → IsJudge (with_one r t word)
+judge_one r t word is can = record {
   next = record {
     sorted = sorted_after r.kept (t ∷ []) r.latest is.next.sorted (sorted_one t can.lasting) is.ended
         (All-cons (λ (op : Operation). r.latest ≤ op.end) t [] can.ends (All-nil (λ (op : Operation). r.latest ≤ op.end)));
@@ -88,6 +91,7 @@ module _ (words : List ℕ) (told : List Operation) (now : ℕ) (r : JudgeValue)
     since_by = k.since_by;
     past = omega (arith, k.past, le);
     explained = k.explained;
+    known = k.known;
     stopped = k.stopped;
   }
 
@@ -112,6 +116,7 @@ module _ (words : List ℕ) (told : List Operation) (now : ℕ) (r : JudgeValue)
     since_by = k.since_by;
     past = k.past;
     explained = k.explained;
+    known = k.known;
     stopped = k.stopped;
   }
 
@@ -139,6 +144,21 @@ module _ (words : List ℕ) (told : List Operation) (now : ℕ) (r : JudgeValue)
       subst AreLasting (sym (told_kept goes))
       (All-append (λ (op : Operation). op.start ≤ op.end) k.earlier r.kept (All-weaker (EndedBefore r.since) (λ (op : Operation). op.start ≤ op.end) (λ op e. e.0) k.earlier k.ended) k.next.sorted.1)
 
+  -- a word to which all leads, where all had happened before a horizon
+  pub known_before : (horizon v : ℕ) → r.is_stopped ≡ false → r.horizon < horizon → r.latest < horizon → All (λ op. op.end ≤ r.latest) r.kept → r.word ≡ Some v
+      → LeadsBy (horizon - 1) words told
+  known_before horizon v goes below late ended is = (
+    v,
+    subst (λ (l : List Operation). SomeLeads l words v) (sym (cut_whole (horizon - 1) told all)) (subst (λ (o : Option ℕ). IfSome o (SomeLeads told words)) is (k.known goes)),
+  )
+    where
+      all : All (EndedBy (horizon - 1)) told
+      all =
+          subst (All (EndedBy (horizon - 1))) (sym (told_kept goes))
+          (All-append (EndedBy (horizon - 1)) k.earlier r.kept
+          (All-weaker (EndedBefore r.since) (EndedBy (horizon - 1)) (λ op e. (e.0, omega (arith, e.1, k.since_by, below))) k.earlier k.ended)
+          (λ i d inside. (k.next.sorted.1 i d inside, let last = ended i d inside in omega (arith, last, late))))
+
   -- one operation more was told
   module _ (t : Operation) (later : now ≤ t.end) (starts : r.horizon ≤ t.start) where
     still_explained : (time : ℕ) → time + 1 ≡ r.since → (v : ℕ) × SomeLeads (cut time (told ++ t ∷ [])) words v
@@ -146,8 +166,22 @@ module _ (words : List ℕ) (told : List Operation) (now : ℕ) (r : JudgeValue)
         let led = k.explained time is in
         (led.0, subst (λ (l : List Operation). SomeLeads l words led.0) (sym (cut_more time told t (omega (arith, is, k.since_by, starts)))) led.1)
 
-    pub keeps_one : r.is_stopped ≡ false → t.start ≤ t.end → IsJudge (with_one r t) → Keeps words (told ++ t ∷ []) t.end (with_one r t)
-    keeps_one goes lasting is = record {
+    -- none that was told before ended later
+    may_before : r.is_stopped ≡ false → t.start ≤ t.end → MayStandBefore told (t ∷ [])
+    may_before goes lasting =
+        subst (λ (l : List Operation). MayStandBefore l (t ∷ [])) (sym (told_kept goes))
+        (All-append Before k.earlier r.kept
+        (All-weaker (EndedBefore r.since) Before (λ op e. alone op (omega (arith, e.0, e.1, k.since_by, starts, lasting))) k.earlier k.ended)
+        (λ i d below. alone (get_or r.kept i d) (let first = k.next.sorted.1 i d below in let last = (k.ends i d below).1 in omega (arith, first, last, later))))
+      where
+        Before : Operation → Type 0
+        Before op = All (λ (other : Operation). op.start ≤ other.end) (t ∷ [])
+
+        alone : (op : Operation) → op.start ≤ t.end → Before op
+        alone op le = All-cons (λ (other : Operation). op.start ≤ other.end) t [] le (All-nil (λ (other : Operation). op.start ≤ other.end))
+
+    pub keeps_one : (word : Option ℕ) → IfSome word (Leaves r.word t) → r.is_stopped ≡ false → t.start ≤ t.end → IsJudge (with_one r t word) → Keeps words (told ++ t ∷ []) t.end (with_one r t word)
+    keeps_one word leaves goes lasting is = record {
       earlier = k.earlier;
       later = [];
       parts = ap (λ (l : List Operation). l ++ t ∷ []) (told_kept goes) ∙ (append_assoc k.earlier r.kept (t ∷ [])
@@ -169,6 +203,7 @@ module _ (words : List ℕ) (told : List Operation) (now : ℕ) (r : JudgeValue)
       since_by = k.since_by;
       past = omega (arith, k.past, later);
       explained = still_explained;
+      known = λ _. still_known words told t r.word word (may_before goes lasting) (k.known goes) leaves;
       stopped = λ is. absurd (true≢false (sym is ∙ goes));
     }
 
@@ -192,6 +227,7 @@ module _ (words : List ℕ) (told : List Operation) (now : ℕ) (r : JudgeValue)
       since_by = k.since_by;
       past = omega (arith, k.past, later);
       explained = still_explained;
+      known = λ goes. absurd (true≢false (sym is ∙ goes));
       stopped = λ so.
           let none = k.stopped so in
           (none.0, none.1, λ v leads. none.2 v (subst (λ (l : List Operation). SomeLeads l words v) (cut_more none.0 told t (omega (arith, none.1, starts))) leads));
@@ -218,16 +254,31 @@ module _ (words : List ℕ) (told : List Operation) (now : ℕ) (r : JudgeValue)
     since_by = omega (arith, k.since_by, below);
     past = k.past;
     explained = k.explained;
+    known = λ goes. absurd (true≢false goes);
     stopped = λ is. (horizon - 1, omega (arith, below), none);
   }
 
+  -- a word to which all leads, once the first so many are left to a search
+  pub known_left : (count : ℕ) (before : FrontierValue) (word : Option ℕ) (are_all : Bool) → r.is_stopped ≡ false → Follows words (k.earlier ++ take count r.kept) before
+      → (IsTrue are_all → drop count r.kept ≡ []) → IfSome word (λ v. (r.word ≡ Some v) ⊎ (IsTrue are_all × LeadsTo before v)) → IfSome word (SomeLeads told words)
+  known_left count before word are_all goes follows all known = IfSome_then word known (λ v from. elim from [
+    | inl same ↦ subst (λ (o : Option ℕ). IfSome o (SomeLeads told words)) same (k.known goes)
+    | inr left ↦ subst (λ (l : List Operation). SomeLeads l words v) (sym (whole (all left.0))) (left.1 words (k.earlier ++ take count r.kept) follows)
+  ])
+    where
+      whole : drop count r.kept ≡ [] → told ≡ k.earlier ++ take count r.kept
+      whole none =
+          told_kept goes
+          ∙ ap (λ (l : List Operation). k.earlier ++ l) (sym (take-append-drop count r.kept)
+          ∙ (ap (λ (l : List Operation). take count r.kept ++ l) none ∙ append-nil (take count r.kept)))
+
   -- those that ended before a horizon are left to the search before the others
-  pub keeps_fewer : (horizon count : ℕ) (before : FrontierValue) (left : List Operation) (ahead : List FrontierValue) (seen : ℕ) → left ≡ last_of r.shown (r.left ++ take count r.kept) → IsNextHorizon words told now r horizon
+  pub keeps_fewer : (horizon count : ℕ) (before : FrontierValue) (left : List Operation) (ahead : List FrontierValue) (seen : ℕ) (word : Option ℕ) → IfSome word (SomeLeads told words) → left ≡ last_of r.shown (r.left ++ take count r.kept) → IsNextHorizon words told now r horizon
       → All (λ op. op.end < horizon) (take count r.kept) → (count < length r.kept → horizon ≤ (at r.kept count).end)
       → Follows words (k.earlier ++ take count r.kept) before → MayBeTold before (drop count r.kept)
       → seen ≤ length (drop count r.kept) → All (GoesAlong words ((k.earlier ++ take count r.kept) ++ take seen (drop count r.kept))) ahead
-      → Keeps words told now (record { before = before; left = left; shown = r.shown; kept = drop count r.kept; ahead = ahead; seen = seen; since = horizon; horizon = horizon; latest = r.latest; is_stopped = r.is_stopped })
-  keeps_fewer horizon count before left ahead seen left_is is ended first follows next some along = record {
+      → Keeps words told now (record { before = before; left = left; shown = r.shown; kept = drop count r.kept; ahead = ahead; seen = seen; word = word; since = horizon; horizon = horizon; latest = r.latest; is_stopped = r.is_stopped })
+  keeps_fewer horizon count before left ahead seen word known left_is is ended first follows next some along = record {
     earlier = k.earlier ++ take count ops;
     later = [];
     parts = told_kept is.goes_on ∙ (ap (λ (l : List Operation). k.earlier ++ l) (sym (take-append-drop count ops)) ∙ (sym (append_assoc k.earlier (take count ops) (drop count ops))
@@ -250,6 +301,7 @@ module _ (words : List ℕ) (told : List Operation) (now : ℕ) (r : JudgeValue)
     since_by = omega arith;
     past = is.past;
     explained = is.explained;
+    known = λ _. known;
     stopped = λ so. absurd (true≢false (sym so ∙ is.goes_on));
   }
     where

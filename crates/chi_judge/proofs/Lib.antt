@@ -10,6 +10,7 @@ pub mod Earlier
 mod Ending
 pub mod Found
 pub mod Keeping
+pub mod KnownWord
 pub mod Last
 pub mod Leading
 pub mod Lists

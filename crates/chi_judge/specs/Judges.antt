@@ -1,17 +1,18 @@
 -- the operations of one granule that are kept, to say where they stop being explained
-use Rattle.std.specs.Prelude.{◌≡◌, ℕ, ◌+◌, ◌^◌, ◌<◌, ◌≤◌, Bool, true, false, List, [], ◌++◌, All, IsTrue, length, take}
+use Rattle.std.specs.Prelude.{◌≡◌, ℕ, ◌+◌, ◌^◌, ◌<◌, ◌≤◌, Bool, true, false, List, [], ◌++◌, All, IfSome, IsTrue, Option, Some, length, take}
 use Rattle.std.specs.List.{AllPairs}
 use Rattle.chi_search.specs.Frontiers.{EndsWith, Follows, FrontierValue, GoesAlong, MayBeTold}
 use Rattle.chi_search.specs.Layers.{SomeLeads}
 use Rattle.chi_trace.specs.AtPlaces.{at_places}
 use Rattle.chi_trace.specs.Cuts.{cut}
+use Rattle.chi_trace.specs.Granules.{Fits, next}
 use Rattle.chi_trace.specs.declared.operation.Operation.{Operation}
 use Rattle.chi_judge.specs.Shown.{EndsNoLater, last_of}
 
 -- The search over the operations before those that are kept, the last of the operations that were left to it, so many at most, and
--- those that are kept, with searches along orders that were told the first so many of these. None that is kept ended before `since`,
--- and none that is told later starts before the horizon, or ends before the latest end. Where they are known not to be explained up
--- to the time before the horizon, it has stopped.
+-- those that are kept, with searches along orders that were told the first so many of these; and a word to which all that was told
+-- leads, where one is known. None that is kept ended before `since`, and none that is told later starts before the horizon, or ends
+-- before the latest end. Where they are known not to be explained up to the time before the horizon, it has stopped.
 pub record JudgeValue : Type 0 where
   pub before : FrontierValue
   pub left : List Operation
@@ -19,6 +20,7 @@ pub record JudgeValue : Type 0 where
   pub kept : List Operation
   pub ahead : List FrontierValue
   pub seen : ℕ
+  pub word : Option ℕ
   pub since : ℕ
   pub horizon : ℕ
   pub latest : ℕ
@@ -31,6 +33,10 @@ stopped_at horizon r = record r { horizon = horizon; is_stopped = true }
 -- what the search follows, and then these operations, lead to some word
 abbrev pub GoesOn : FrontierValue → List Operation → Type 0
 GoesOn f more = (words : List ℕ) (told : List Operation) → Follows words told f → (v : ℕ) × SomeLeads (told ++ more) words v
+
+-- what the search follows leads to the word
+abbrev pub LeadsTo : FrontierValue → ℕ → Type 0
+LeadsTo f v = (words : List ℕ) (told : List Operation) → Follows words told f → SomeLeads told words v
 
 -- they lead to none
 abbrev pub GoesNowhere : FrontierValue → List Operation → Type 0
@@ -46,6 +52,14 @@ pub record IsEndOfSome (f : FrontierValue) (more : List Operation) (most : ℕ) 
 -- what had happened by a time leads to some word
 abbrev pub LeadsBy : ℕ → List ℕ → List Operation → Type 0
 LeadsBy time words told = (v : ℕ) × SomeLeads (cut time told) words v
+
+-- the operation fits the word that the others left, and leaves this one of it
+pub record Leaves (word : Option ℕ) (op : Operation) (after : ℕ) : Type 0 where
+  pub found : ℕ
+  pub is_word : word ≡ Some found
+  pub fits : Fits op found
+  pub after_is : after ≡ next op found
+  pub below : after < 2 ^ 64
 
 -- the operand lies within 2^52 bytes
 abbrev pub LiesWithin : Operation → Type 0
@@ -88,6 +102,7 @@ pub record Keeps (words : List ℕ) (told : List Operation) (now : ℕ) (r : Jud
   pub since_by : r.since ≤ r.horizon
   pub past : r.since ≤ now + 1
   pub explained : (time : ℕ) → time + 1 ≡ r.since → LeadsBy time words told
+  pub known : r.is_stopped ≡ false → IfSome r.word (SomeLeads told words)
   pub stopped : IsTrue r.is_stopped → (time : ℕ) × (time + 1 ≡ r.horizon) × ((v : ℕ) → SomeLeads (cut time told) words v → ⊥)
 
 -- the operation may be told next

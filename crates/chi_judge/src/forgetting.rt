@@ -9,6 +9,7 @@ ghost use Rattle.chi_judge.specs.Judges.{IsNextHorizon, Keeps, stopped_at};
 
 use crate::ahead::leave_where_few;
 use crate::judge::Judge;
+use crate::known_word::word_once_left;
 use crate::search::{order_by, told_after};
 use crate::shown::last_with;
 use chi_search::{Found, Progress};
@@ -135,11 +136,20 @@ impl Judge {
         };
         let kept = Vec::from_slice(alloc, &self.kept[count..])?;
         let last = last_with(alloc, self.shown, &self.left, &self.kept[..count])?;
+        let word = word_once_left(
+            alloc,
+            self.word,
+            &before,
+            kept.is_empty(),
+            &mut budget,
+            progress,
+        )?;
         leave_where_few(alloc, &mut self.ahead, kept.len());
         self.seen = kept.len();
         self.before = before;
         self.left = last;
         self.kept = kept;
+        self.word = word;
         self.since = horizon;
         self.horizon = horizon;
         Ok(true)

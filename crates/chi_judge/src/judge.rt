@@ -4,6 +4,7 @@ ghost use Rattle.std.specs.Prelude.{◌≡◌, ◌≤◌, ◌↔◌, ℕ, [], �
 ghost use Rattle.chi_trace.specs.declared.operation.Operation.{Operation};
 ghost use Rattle.chi_judge.specs.Judges.{CanBeKept, Keeps};
 
+use crate::known_word::word_after;
 use chi_fields::ADDRESSES;
 use chi_search::Frontier;
 use chi_trace::Operation;
@@ -12,7 +13,7 @@ use std::marker::Model;
 
 /// The operations of one granule that ended last, and the search over those before them. They are told in the order of their
 /// ends, and are kept until it is sure that what came before can be explained. The last of those before them are kept to be
-/// shown.
+/// shown. A word to which all that was told leads is known while each operation fits the word that those that ended before it leave.
 ///
 /// ```
 /// let mut judge = Judge::new(alloc, 0, 16)?;
@@ -28,6 +29,7 @@ pub struct Judge {
     pub(crate) left: Vec<Operation>,
     pub(crate) shown: usize,
     pub(crate) kept: Vec<Operation>,
+    pub(crate) word: Option<u64>,
     pub(crate) since: u64,
     pub(crate) horizon: u64,
     pub(crate) latest: u64,
@@ -45,9 +47,9 @@ impl Model for Judge {
 
     ghost Value = { JudgeValue };
 
-    ghost view = { λ r. record { before = r.before; left = r.left.items; shown = r.shown; kept = r.kept.items; ahead = r.ahead.items; seen = r.seen; since = r.since; horizon = r.horizon; latest = r.latest; is_stopped = r.is_stopped } };
+    ghost view = { λ r. record { before = r.before; left = r.left.items; shown = r.shown; kept = r.kept.items; ahead = r.ahead.items; seen = r.seen; word = r.word; since = r.since; horizon = r.horizon; latest = r.latest; is_stopped = r.is_stopped } };
 
-    ghost invariant = { λ r. IsJudge (record { before = r.before; left = r.left.items; shown = r.shown; kept = r.kept.items; ahead = r.ahead.items; seen = r.seen; since = r.since; horizon = r.horizon; latest = r.latest; is_stopped = r.is_stopped }) };
+    ghost invariant = { λ r. IsJudge (record { before = r.before; left = r.left.items; shown = r.shown; kept = r.kept.items; ahead = r.ahead.items; seen = r.seen; word = r.word; since = r.since; horizon = r.horizon; latest = r.latest; is_stopped = r.is_stopped }) };
 }
 
 /// How many operations it keeps at least before it looks whether it may keep fewer.
@@ -63,6 +65,7 @@ impl Judge {
     /// ```
     /// let judge = Judge::new(alloc, 0, 16)?;
     /// ```
+    #[tactic(auto, using(crate::proofs::KnownWord::nothing_leads))]
     pub fn new(alloc: Global, word: u64, shown: usize) -> Result<Judge, AllocError>
         ensures keeps { IfOk result (λ judge. Keeps (word ∷ []) [] 0 judge) }
         ensures untold { IfOk result (λ judge. (judge.horizon ≡ 0) × (judge.latest ≡ 0)) }
@@ -74,6 +77,7 @@ impl Judge {
             left: Vec::new(alloc),
             shown,
             kept: Vec::new(alloc),
+            word: Some(word),
             since: 0,
             horizon: 0,
             latest: 0,
@@ -109,6 +113,7 @@ impl Judge {
         if !self.is_stopped {
             self.kept.push(*op)?;
             self.latest = op.end;
+            self.word = word_after(self.word, op);
         }
         Ok(true)
     }

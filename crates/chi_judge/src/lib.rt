@@ -5,6 +5,7 @@ mod ahead;
 mod explained;
 mod forgetting;
 mod judge;
+mod known_word;
 mod later_makers;
 mod legal;
 mod reach;

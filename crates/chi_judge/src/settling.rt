@@ -76,8 +76,8 @@ impl Judge {
         Ok(())
     }
 
-    // Whether an order of what had happened before the horizon is found from where the last ones stand, or from the start. Where
-    // none is found from there either they are left out, since no order goes on from them.
+    // Whether it is known that an order explains what had happened before the horizon, or one is found from where the last ones stand,
+    // or from the start. Where none is found from there either they are left out, since no order goes on from them.
     fn goes_ahead<P: Progress>(
         &mut self,
         alloc: Global,
@@ -93,6 +93,9 @@ impl Judge {
         ensures looked { IfOk result (λ _. LookedSome P.looked progress.old progress.new) }
     {
         self.tell_ahead(alloc)?;
+        if self.is_known_before(horizon) {
+            return Ok(true);
+        }
         let budget = few_states_for(self.kept.len());
         let mut waits = !self.is_behind;
         match found_along(

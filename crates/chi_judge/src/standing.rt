@@ -87,6 +87,9 @@ impl Judge {
         if self.is_stopped {
             return Ok(Standing::Unexplained);
         }
+        if self.leads_to(final_word) {
+            return Ok(Standing::Explained);
+        }
         let mut left = budget;
         if self.goes_on(alloc, final_word, &mut left, progress)? {
             return Ok(Standing::Explained);

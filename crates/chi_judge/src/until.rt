@@ -62,6 +62,7 @@ impl Judge {
         ensures stopped { IfOk result (λ _. self.new.is_stopped ≡ self.old.is_stopped) }
     {
         self.kept = happened_before(alloc, &self.kept, time)?;
+        self.word = None;
         self.ahead = Vec::new(alloc);
         self.seen = 0;
         Ok(())

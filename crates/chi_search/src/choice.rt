@@ -12,6 +12,7 @@ ghost use Rattle.chi_search.specs.Positions.{IsReady, position_of};
 ghost use Rattle.chi_search.specs.Searchable.{AreWithin};
 
 use crate::absorbing::keeps_word;
+use crate::at_word::{stays, step};
 use crate::commuting::commuting_next;
 use crate::earliest::EarliestStarts;
 use crate::effect::Effect;
@@ -21,7 +22,6 @@ use crate::narrowest::narrowest_next;
 use crate::problem::Problem;
 use crate::state::{State, is_left, settle};
 use crate::states::{States, has};
-use crate::step::{stays, step};
 use chi_trace::Operation;
 use std::alloc::AllocError;
 

@@ -9,7 +9,7 @@ ghost use Rattle.chi_lanes.specs.declared.reply.Reply.{Reply};
 ghost use Rattle.chi_search.specs.Effects.{AreEffects, HasEffect, IsBlind, IsInOperand, IsPick};
 ghost use Rattle.chi_search.specs.Searchable.{AreWithin};
 
-use crate::step::step;
+use crate::at_word::step;
 use chi_fields::{Kind, Op};
 use chi_lanes::{Reply, lane_mask};
 use chi_trace::Operation;

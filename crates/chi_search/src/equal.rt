@@ -6,9 +6,9 @@ ghost use Rattle.chi_search.specs.Paths.{AreEarliest};
 ghost use Rattle.chi_search.specs.Positions.{IsReady, position_of};
 ghost use Rattle.chi_search.specs.Searchable.{AreSorted};
 
+use crate::at_word::is_same;
 use crate::earliest::EarliestStarts;
 use crate::state::{State, is_left};
-use crate::step::is_same;
 use chi_fields::Access;
 use chi_lanes::Reply;
 use chi_trace::Operation;

@@ -4,6 +4,7 @@
 mod absorbing;
 mod after;
 mod at_once;
+mod at_word;
 mod chains;
 mod choice;
 mod commuting;
@@ -30,11 +31,11 @@ mod searching;
 mod settled;
 mod state;
 mod states;
-mod step;
 mod wanted;
 mod wide;
 mod words;
 
+pub use at_word::step;
 pub use frontier::Frontier;
 pub use order::{Found, order_of};
 pub use progress::{NoProgress, Progress};

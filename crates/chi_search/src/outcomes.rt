@@ -5,8 +5,8 @@ ghost use Rattle.chi_search.specs.Effects.{HasEffect, IsBitwise, IsSum};
 ghost use Rattle.chi_search.specs.Outcomes.{AreOutcomes, IfKnown};
 ghost use Rattle.chi_search.specs.Within.{IsRun};
 
+use crate::at_word::step;
 use crate::effect::{Effect, operand_mask};
-use crate::step::step;
 use chi_fields::{Kind, Op};
 use chi_trace::Operation;
 

@@ -6,8 +6,8 @@ ghost use Rattle.chi_search.specs.Effects.{AgreeOutside, HasEffect, IsEor, IsSum
 ghost use Rattle.chi_search.specs.Makers.{IsPart, LeavesOperand, Wants};
 ghost use Rattle.chi_search.specs.Within.{IsRun};
 
+use crate::at_word::step;
 use crate::effect::{Effect, operand_mask};
-use crate::step::step;
 use chi_fields::{Kind, Op};
 use chi_trace::Operation;
 

@@ -26,8 +26,19 @@ narrower false c q is = omega arith
 narrower true false true is = absurd (true≢false (sym is))
 narrower true false false is = omega arith
 
-pub whole_leads : (a b : List Operation) (w v : ℕ) → AreApart a b → AreLasting a → AreLasting b → (u : ℕ) → Leads a w u → Leads b u v → Leads (a ++ b) w v
-whole_leads a b w v apart lasts lasting u earlier later = (
+-- none of the later ended before one of the earlier started
+abbrev pub MayStandBefore : List Operation → List Operation → Type 0
+MayStandBefore earlier later = All (λ op. All (λ other. op.start ≤ other.end) later) earlier
+
+pub may_before : (a b : List Operation) → AreApart a b → AreLasting a → AreLasting b → MayStandBefore a b
+may_before a b apart lasts lasting i d below j e under =
+    let own = lasts i d below in
+    let gap = apart i d below j e under in
+    let its = lasting j e under in
+    omega (arith, own, gap, its)
+
+pub whole_leads : (a b : List Operation) (w v : ℕ) → MayStandBefore a b → (u : ℕ) → Leads a w u → Leads b u v → Leads (a ++ b) w v
+whole_leads a b w v may u earlier later = (
   x ++ y,
   record {
     done = λ i. done i (is_place a i) refl (is_place ts i) refl;
@@ -139,8 +150,6 @@ whole_leads a b w v apart lasts lasting u earlier later = (
                 let on : j ≡ n + k = omega arith in
                 let stands : 0 < times_in y0 k = omega (arith, more, ap (times_in y) on ∙ ty k) in
                 let below : k < length b = ltb-true k (length b) (of_member (λ l. is_place b l ≡ true) y0 k (places_of b y0 ey.once) stands) in
-                let own : (at a i).start ≤ (at a i).end = lasts i nothing (ltb-true i n is) in
-                let gap : (at a i).end < (at b k).start = apart i nothing (ltb-true i n is) k nothing below in
-                let its : (at b k).start ≤ (at b k).end = lasting k nothing below in
+                let first : (at a i).start ≤ (at b k).end = may i nothing (ltb-true i n is) k nothing below in
                 let start : (at ts i).start ≡ (at a i).start = ap (λ (o : Operation). o.start) (at_earlier a b i is) in
-                let end : (at ts j).end ≡ (at b k).end = ap (λ l. (at ts l).end) on ∙ ap (λ (o : Operation). o.end) (at_later a b k) in omega (arith, own, gap, its, start, end)
+                let end : (at ts j).end ≡ (at b k).end = ap (λ l. (at ts l).end) on ∙ ap (λ (o : Operation). o.end) (at_later a b k) in omega (arith, first, start, end)

@@ -151,14 +151,19 @@ fn granules_found_at_the_end(rt: HostRuntime) -> Result<(), Fail> {
     assert_ends(&rt, &DECIDED)
 }
 
-// Two additions are open: within a budget of no states that cannot be decided. Of the next granule only the word at the end is
-// told, which is decided without a state. And seven additions of even numbers overlap, and a read beside them answers 1, which no set
+// Two additions overlap, and the one that ends first tells that the other one came before it: within a budget of no states that
+// cannot be decided. Of the next granule only the word at the end is told, which is decided without a state. And seven additions of even numbers overlap, and a read beside them answers 1, which no set
 // of them leaves: there are 128 sets, and 50 states are too few. The last addition ends at time 15, and the read at 16. Up to 15 any
 // order of the additions is right.
 static UNDECIDED: [Case; 2] = [
     (
         "no_budget",
-        &[Told::Add(1, 1), Told::Add(2, 1), Told::FinalNext(3)],
+        &[
+            Told::Add(1, 1),
+            Told::Add(2, 1),
+            Told::Answer(1, 1),
+            Told::FinalNext(3),
+        ],
         0,
         &[GRANULE + 1],
         &[(GRANULE, None)],

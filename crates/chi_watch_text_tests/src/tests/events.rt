@@ -14,6 +14,14 @@ pub(crate) const WRITE: &str =
 {\"time\":2,\"event\":\"reply\",\"id\":1,\"reply\":\"comp\"}
 ";
 
+// The same write, and a read that tells 5 before the write has ended.
+pub(crate) const READ_WITHIN_A_WRITE: &str =
+    "{\"time\":1,\"event\":\"request\",\"id\":1,\"src\":0,\"txn\":1,\"op\":28,\"size\":3,\"addr\":4096,\"endian\":0,\"be\":255,\"lanes\":\"05000000000000000000000000000000\"}
+{\"time\":2,\"event\":\"request\",\"id\":2,\"src\":0,\"txn\":2,\"op\":4,\"size\":3,\"addr\":4096,\"endian\":0}
+{\"time\":3,\"event\":\"reply\",\"id\":2,\"reply\":\"05000000000000000000000000000000\"}
+{\"time\":4,\"event\":\"reply\",\"id\":1,\"reply\":\"comp\"}
+";
+
 // A read of it, without its completion.
 pub(crate) const READ: &str =
     "{\"time\":3,\"event\":\"request\",\"id\":2,\"src\":0,\"txn\":2,\"op\":4,\"size\":3,\"addr\":4096,\"endian\":0}

@@ -2,7 +2,8 @@
 
 use crate::tests::comparison::assert_same;
 use crate::tests::events::{
-    ALL, FIVE, GOING, LAST, NINE_AND_FIVE, READ, STOPPING, UNKNOWN, WRITE, ZERO, answer,
+    ALL, FIVE, GOING, LAST, NINE_AND_FIVE, READ, READ_WITHIN_A_WRITE, STOPPING, UNKNOWN, WRITE,
+    ZERO, answer,
 };
 use chi_answer::AnswerFormat;
 use chi_judge::Reach;
@@ -103,8 +104,8 @@ at the end: 0800000000000000
     assert_answer(&rt, &texts, &GOING, found.as_str(), (4, 0, 3, 0))
 }
 
-// Within a budget of no states a granule that has an operation is not decided, and one with words alone is, but not which word it
-// could hold at the end.
+// Within a budget of no states a granule is not decided whose operations took effect in another order than they ended, and one with
+// words alone is, but not which word it could hold at the end.
 #[test]
 fn no_budget(rt: HostRuntime) -> Result<(), Fail> {
     let options = WatchOptions { budget: 0, ..GOING };
@@ -112,7 +113,8 @@ fn no_budget(rt: HostRuntime) -> Result<(), Fail> {
   at the end
 undecided: granule 0000000000001000 after 0 states
 ";
-    assert_answer(&rt, &[WRITE, LAST], &options, found, (1, 0, 2, 0))
+    let texts = [READ_WITHIN_A_WRITE, LAST];
+    assert_answer(&rt, &texts, &options, found, (2, 0, 2, 0))
 }
 
 /// A granule that is found at the end, of which no word is told and it is not found how far it can be explained.

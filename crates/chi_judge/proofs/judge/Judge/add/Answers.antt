@@ -8,16 +8,17 @@ use Rattle.chi_judge.proofs.judge.Judge.add.Goals as goal
 pub returns-in_ok-push-clause-keeps : goal.returns-in_ok-push-clause-keeps
 returns-in_ok-push-clause-keeps c taken words told now later keeps =
     let s = c.self.inside in
-    let r : JudgeValue = record { before = s.before; left = s.left.items; shown = s.shown; kept = s.kept.items; ahead = s.ahead.items; seen = s.seen; since = s.since; horizon = s.horizon; latest = s.latest; is_stopped = s.is_stopped } in
+    let r : JudgeValue = record { before = s.before; left = s.left.items; shown = s.shown; kept = s.kept.items; ahead = s.ahead.items; seen = s.seen; word = s.word; since = s.since; horizon = s.horizon; latest = s.latest; is_stopped = s.is_stopped } in
     let t = c.args.op.now in
     let can : CanBeKept r t = record { ends = omega arith; starts = omega arith; lasting = omega arith; within = omega arith } in
-    subst (λ (kept : List Operation). Keeps words (told ++ t ∷ []) t.end (record r { kept = kept; latest = t.end })) (sym c.in_ok-push.ensures.items)
-    (keeps_one words told now r (subst (Keeps words told now) (sym c.self.view_is) keeps) t later can.starts c.if-not-self.true can.lasting (judge_one r t c.self.invariant can))
+    let word = c.word_after-self-inside.result in
+    subst (λ (kept : List Operation). Keeps words (told ++ t ∷ []) t.end (record r { kept = kept; word = word; latest = t.end })) (sym c.in_ok-push.ensures.items)
+    (keeps_one words told now r (subst (Keeps words told now) (sym c.self.view_is) keeps) t later can.starts word c.word_after-self-inside.ensures c.if-not-self.true can.lasting (judge_one r t word c.self.invariant can))
 
 pub returns-else-not-self-clause-keeps : goal.returns-else-not-self-clause-keeps
 returns-else-not-self-clause-keeps c taken words told now later keeps =
     let s = c.self.inside in
-    let r : JudgeValue = record { before = s.before; left = s.left.items; shown = s.shown; kept = s.kept.items; ahead = s.ahead.items; seen = s.seen; since = s.since; horizon = s.horizon; latest = s.latest; is_stopped = s.is_stopped } in
+    let r : JudgeValue = record { before = s.before; left = s.left.items; shown = s.shown; kept = s.kept.items; ahead = s.ahead.items; seen = s.seen; word = s.word; since = s.since; horizon = s.horizon; latest = s.latest; is_stopped = s.is_stopped } in
     let t = c.args.op.now in
     subst (Keeps words (told ++ t ∷ []) t.end) c.self.view_is
     (keeps_stopped words told now r (subst (Keeps words told now) (sym c.self.view_is) keeps) t later (omega arith) c.if-not-self.false)

@@ -7,7 +7,7 @@ use Rattle.chi_search.specs.Frontiers.{Follows, FrontierValue}
 use Rattle.chi_search.specs.Layers.{SomeLeads}
 use Rattle.chi_search.proofs.Looking.{some_after}
 use Rattle.chi_judge.specs.Judges.{JudgeValue}
-use Rattle.chi_judge.proofs.Checked.{leads_none, leads_some, stopped_none}
+use Rattle.chi_judge.proofs.Checked.{known_explains, leads_none, leads_some, stopped_none}
 use Rattle.chi_judge.proofs.judge.Judge.check.Goals as goal
 
 -- what was told leads to a word with this property, or to none
@@ -30,6 +30,11 @@ follows_kept r inside more told after same kept is follows =
 
 pub returns-then-self-clause-unexplained : goal.returns-then-self-clause-unexplained
 returns-then-self-clause-unexplained g c = stopped_none c.granules_stand_alone.ensures c.args.self.now c.args.final_word (ap (λ (v : JudgeValue). v.is_stopped) (sym c.self.view_is) ∙ c.if-self.true)
+
+pub returns-then-leads_to-clause-explained : goal.returns-then-leads_to-clause-explained
+returns-then-leads_to-clause-explained g c =
+    let goes : c.args.self.now.is_stopped ≡ false = ap (λ (v : JudgeValue). v.is_stopped) (sym c.self.view_is) ∙ c.if-self.false in
+    known_explains c.granules_stand_alone.ensures c.args.self.now c.args.final_word goes (c.leads_to.ensures c.if-leads_to.true)
 
 pub returns-in-Order-clause-explained : goal.returns-in-Order-clause-explained
 returns-in-Order-clause-explained g c =

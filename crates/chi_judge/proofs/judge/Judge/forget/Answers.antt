@@ -5,9 +5,11 @@ use Rattle.std.proofs.lemmas.List.Elements.{All-drop, All-take}
 use Rattle.chi_trace.specs.declared.operation.Operation.{Operation}
 use Rattle.chi_trace.specs.Explains.{at}
 use Rattle.chi_search.specs.Frontiers.{Follows, FrontierValue, GoesAlong, MayBeTold}
+use Rattle.chi_search.proofs.Looking.{some_after}
+use Rattle.chi_search.proofs.Sets.{none_counted}
 use Rattle.chi_judge.specs.Judges.{IsJudge, IsNextHorizon, JudgeValue, Keeps, LiesWithin}
 use Rattle.chi_judge.specs.Shown.{last_of}
-use Rattle.chi_judge.proofs.Keeping.{ahead_of_all, keeps_fewer}
+use Rattle.chi_judge.proofs.Keeping.{ahead_of_all, keeps_fewer, known_left}
 use Rattle.chi_judge.proofs.judge.Judge.forget.Goals as goal
 
 -- the elements from a place on
@@ -66,9 +68,9 @@ from_callees r given count least horizon told moved after before same told_is mo
   starts = subst (λ (l : List Operation). All (λ op. least ≤ op.start) (drop count l)) same starts;
 }
 
-judge_fewer : (r : JudgeValue) (count least horizon : ℕ) (after before : FrontierValue) (left : List Operation) (ahead : List FrontierValue) (seen : ℕ) → IsJudge r → r.horizon < horizon → GoesOnFrom r count least horizon after before
-    → IsJudge (record { before = before; left = left; shown = r.shown; kept = drop count r.kept; ahead = ahead; seen = seen; since = horizon; horizon = horizon; latest = r.latest; is_stopped = r.is_stopped })
-judge_fewer r count least horizon after before left ahead seen is later on = record {
+judge_fewer : (r : JudgeValue) (count least horizon : ℕ) (after before : FrontierValue) (left : List Operation) (ahead : List FrontierValue) (seen : ℕ) (word : Option ℕ) → IsJudge r → r.horizon < horizon → GoesOnFrom r count least horizon after before
+    → IsJudge (record { before = before; left = left; shown = r.shown; kept = drop count r.kept; ahead = ahead; seen = seen; word = word; since = horizon; horizon = horizon; latest = r.latest; is_stopped = r.is_stopped })
+judge_fewer r count least horizon after before left ahead seen word is later on = record {
   next = may_on after before least (drop count r.kept) on.horizon_before on.latest_before on.starts
       (on.next (drop count r.kept) (subst (MayBeTold r.before) (sym (take-append-drop count r.kept)) is.next));
   within = All-drop LiesWithin count r.kept is.within;
@@ -85,7 +87,7 @@ judge_fewer r count least horizon after before left ahead seen is later on = rec
 pub invariant_of-self : goal.invariant_of-self
 invariant_of-self g c =
     let s = c.self.inside in
-    let r : JudgeValue = record { before = s.before; left = s.left.items; shown = s.shown; kept = s.kept.items; ahead = s.ahead.items; seen = s.seen; since = s.since; horizon = s.horizon; latest = s.latest; is_stopped = s.is_stopped } in
+    let r : JudgeValue = record { before = s.before; left = s.left.items; shown = s.shown; kept = s.kept.items; ahead = s.ahead.items; seen = s.seen; word = s.word; since = s.since; horizon = s.horizon; latest = s.latest; is_stopped = s.is_stopped } in
     let count = c.ended_before-count.result in
     let least = c.least_start-least.result in
     let kept : c.in_ok-kept.kept.items ≡ drop count s.kept.items =
@@ -96,13 +98,13 @@ invariant_of-self g c =
     (subst (λ (l : List Operation). All (λ op. least ≤ op.start) (drop count l)) (c.deref-2.ensures.value ∙ sym c.deref-3.ensures.value)
     (subst (All (λ (op : Operation). least ≤ op.start)) (rest_is count c.deref-2.result.now) c.least_start-least.ensures.each)) in
     let later : s.horizon < c.args.horizon = subst (λ v. v.horizon < c.args.horizon) (sym c.self.view_is) c.requires.later in
-    subst (λ (l : List Operation). IsJudge (record { before = c.in-Some-2.before; left = c.in_ok-last.last.items; shown = s.shown; kept = l; ahead = c.leave_where_few.new.searches.items; seen = c.len-self-inside.result; since = c.args.horizon; horizon = c.args.horizon; latest = s.latest; is_stopped = s.is_stopped })) (sym kept)
-    (judge_fewer r count least c.args.horizon c.in-Some.after c.in-Some-2.before c.in_ok-last.last.items c.leave_where_few.new.searches.items c.len-self-inside.result c.self.invariant later on)
+    subst (λ (l : List Operation). IsJudge (record { before = c.in-Some-2.before; left = c.in_ok-last.last.items; shown = s.shown; kept = l; ahead = c.leave_where_few.new.searches.items; seen = c.len-self-inside.result; word = c.in_ok-word.word; since = c.args.horizon; horizon = c.args.horizon; latest = s.latest; is_stopped = s.is_stopped })) (sym kept)
+    (judge_fewer r count least c.args.horizon c.in-Some.after c.in-Some-2.before c.in_ok-last.last.items c.leave_where_few.new.searches.items c.len-self-inside.result c.in_ok-word.word c.self.invariant later on)
 
 pub returns-clause-keeps : goal.returns-clause-keeps
 returns-clause-keeps g c words told now next keeps =
     let s = c.self.inside in
-    let r : JudgeValue = record { before = s.before; left = s.left.items; shown = s.shown; kept = s.kept.items; ahead = s.ahead.items; seen = s.seen; since = s.since; horizon = s.horizon; latest = s.latest; is_stopped = s.is_stopped } in
+    let r : JudgeValue = record { before = s.before; left = s.left.items; shown = s.shown; kept = s.kept.items; ahead = s.ahead.items; seen = s.seen; word = s.word; since = s.since; horizon = s.horizon; latest = s.latest; is_stopped = s.is_stopped } in
     let count = c.ended_before-count.result in
     let least = c.least_start-least.result in
     let kept : c.in_ok-kept.kept.items ≡ drop count s.kept.items =
@@ -114,7 +116,7 @@ returns-clause-keeps g c words told now next keeps =
     (subst (All (λ (op : Operation). least ≤ op.start)) (rest_is count c.deref-2.result.now) c.least_start-least.ensures.each)) in
     let k : Keeps words told now r = subst (Keeps words told now) (sym c.self.view_is) keeps in
     let later : IsNextHorizon words told now r c.args.horizon = subst (λ v. IsNextHorizon words told now v c.args.horizon) (sym c.self.view_is) next in
-    let judge = judge_fewer r count least c.args.horizon c.in-Some.after c.in-Some-2.before c.in_ok-last.last.items c.leave_where_few.new.searches.items c.len-self-inside.result c.self.invariant later.later on in
+    let judge = judge_fewer r count least c.args.horizon c.in-Some.after c.in-Some-2.before c.in_ok-last.last.items c.leave_where_few.new.searches.items c.len-self-inside.result c.in_ok-word.word c.self.invariant later.later on in
     let left : c.in_ok-last.last.items ≡ last_of s.shown (s.left.items ++ take count s.kept.items) =
     c.in_ok-last.ensures ∙ ap₂ (λ (a b : List Operation). last_of s.shown (a ++ take count b)) c.deref-5.ensures.value c.deref-6.ensures.value in
     let ops = s.kept.items in
@@ -124,10 +126,18 @@ returns-clause-keeps g c words told now next keeps =
     ∙ (sym (append_assoc k.earlier (take count ops) (drop count ops))
     ∙ ap (λ (l : List Operation). (k.earlier ++ take count ops) ++ l) (sym (take_all c.len-self-inside.result (drop count ops) (omega (arith, seen))))) in
     let all : r.seen ≡ length r.kept = subst (λ (v : JudgeValue). v.seen ≡ length v.kept) (sym c.self.view_is) c.requires.told in
+    let follows = on.follows words k.earlier k.follows in
+    let known = known_left words told now r k count c.in-Some-2.before c.in_ok-word.word c.is_empty.result later.goes_on follows
+    (λ all. sym kept ∙ none_counted c.in_ok-kept.kept.items c.in_ok-kept.kept.len c.is_empty.result c.in_ok-kept.kept.ok.0 c.is_empty.ensures all)
+    c.in_ok-word.ensures.known in
     let along : All (GoesAlong words (k.earlier ++ ops)) c.leave_where_few.new.searches.items = c.leave_where_few.ensures words (k.earlier ++ ops) (ahead_of_all words told now r k all) in
-    subst (λ (l : List Operation). Keeps words told now (record { before = c.in-Some-2.before; left = c.in_ok-last.last.items; shown = s.shown; kept = l; ahead = c.leave_where_few.new.searches.items; seen = c.len-self-inside.result; since = c.args.horizon; horizon = c.args.horizon; latest = s.latest; is_stopped = s.is_stopped })) (sym kept)
-    (keeps_fewer words told now r k c.args.horizon count c.in-Some-2.before c.in_ok-last.last.items c.leave_where_few.new.searches.items c.len-self-inside.result left later
+    subst (λ (l : List Operation). Keeps words told now (record { before = c.in-Some-2.before; left = c.in_ok-last.last.items; shown = s.shown; kept = l; ahead = c.leave_where_few.new.searches.items; seen = c.len-self-inside.result; word = c.in_ok-word.word; since = c.args.horizon; horizon = c.args.horizon; latest = s.latest; is_stopped = s.is_stopped })) (sym kept)
+    (keeps_fewer words told now r k c.args.horizon count c.in-Some-2.before c.in_ok-last.last.items c.leave_where_few.new.searches.items c.len-self-inside.result c.in_ok-word.word known left later
     (subst (λ (l : List Operation). All (λ op. op.end < c.args.horizon) (take count l)) c.deref.ensures.value c.ended_before-count.ensures.before)
     (subst (λ (l : List Operation). count < length l → c.args.horizon ≤ (at l count).end) c.deref.ensures.value c.ended_before-count.ensures.first)
-    (on.follows words k.earlier k.follows) judge.next (omega (arith, seen))
+    follows judge.next (omega (arith, seen))
     (subst (λ (l : List Operation). All (GoesAlong words l) c.leave_where_few.new.searches.items) whole along))
+
+pub returns-clause-looked : goal.returns-clause-looked
+returns-clause-looked g c =
+    some_after g.P.Progress.looked c.args.progress.now c.advanced.new.progress c.word_once_left.new.progress (_, c.in_ok-before.ensures.spends.1) c.in_ok-word.ensures.looked

@@ -16,7 +16,7 @@ use Rattle.chi_judge.proofs.judge.Judge.goes_on.Goals as goal
 pub returns-in-Order-clause-explained : goal.returns-in-Order-clause-explained
 returns-in-Order-clause-explained g c law is_true trace n w of_now =
     let s = c.self.inside in
-    let r : JudgeValue = record { before = s.before; left = s.left.items; shown = s.shown; kept = s.kept.items; ahead = s.ahead.items; seen = s.seen; since = s.since; horizon = s.horizon; latest = s.latest; is_stopped = s.is_stopped } in
+    let r : JudgeValue = record { before = s.before; left = s.left.items; shown = s.shown; kept = s.kept.items; ahead = s.ahead.items; seen = s.seen; word = s.word; since = s.since; horizon = s.horizon; latest = s.latest; is_stopped = s.is_stopped } in
     let is : IsJudgeOf trace n w r = subst (IsJudgeOf trace n w) (sym c.self.view_is) of_now in
     let earlier = is.keeps.earlier in
     let goes : r.is_stopped ≡ false = subst (λ (v : JudgeValue). v.is_stopped ≡ false) (sym c.self.view_is) c.requires.goes_on in

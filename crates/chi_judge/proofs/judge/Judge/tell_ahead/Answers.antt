@@ -10,7 +10,7 @@ use Rattle.chi_judge.proofs.judge.Judge.tell_ahead.Goals as goal
 pub returns-clause-keeps : goal.returns-clause-keeps
 returns-clause-keeps c words told now keeps =
     let s = c.self.inside in
-    let r : JudgeValue = record { before = s.before; left = s.left.items; shown = s.shown; kept = s.kept.items; ahead = s.ahead.items; seen = s.seen; since = s.since; horizon = s.horizon; latest = s.latest; is_stopped = s.is_stopped } in
+    let r : JudgeValue = record { before = s.before; left = s.left.items; shown = s.shown; kept = s.kept.items; ahead = s.ahead.items; seen = s.seen; word = s.word; since = s.since; horizon = s.horizon; latest = s.latest; is_stopped = s.is_stopped } in
     let k : Keeps words told now r = subst (Keeps words told now) (sym c.self.view_is) keeps in
     let ahead = c.in_ok-self-inside.field-0.items in
     let more : c.in-Some.more.now ≡ drop s.seen s.kept.items =

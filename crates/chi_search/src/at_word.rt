@@ -19,7 +19,13 @@ pub(crate) fn is_same(reply: Reply, other: Reply) -> bool
 }
 
 /// The word that the operation leaves of a word, where its reply, if it was seen, is the one that the word gives.
-pub(crate) fn step(op: &Operation, word: u64) -> Option<u64>
+///
+/// ```
+/// if let Some(after) = step(&op, word) {
+///     word = after;
+/// }
+/// ```
+pub fn step(op: &Operation, word: u64) -> Option<u64>
     requires { op.now.access.addr + op.now.access.len ≤ 2 ^ 52 }
     ensures fits { IfSome result (λ after. Fits op.now word) }
     ensures after { IfSome result (λ after. after ≡ next op.now word) }

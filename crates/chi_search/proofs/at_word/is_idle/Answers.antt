@@ -1,7 +1,7 @@
 -- data tell the old bytes, so an operation that leaves one word leaves each
 use Rattle.std.proofs.Common.{Some, sym, ap, ◌∙◌, eqb-true}
 use Rattle.chi_search.proofs.Idle.{idle_data}
-use Rattle.chi_search.proofs.step.is_idle.Goals as goal
+use Rattle.chi_search.proofs.at_word.is_idle.Goals as goal
 
 pub returns-in-CompData : goal.returns-in-CompData
 returns-in-CompData c stays =

@@ -5,7 +5,7 @@ use Rattle.chi_lanes.specs.After.{answer}
 use Rattle.chi_lanes.specs.Memory.{granule_start}
 use Rattle.chi_lanes.specs.declared.reply.Reply.{Reply}
 use Rattle.chi_trace.specs.Granules.{Fits, with_word}
-use Rattle.chi_search.proofs.step.step.Goals as goal
+use Rattle.chi_search.proofs.at_word.step.Goals as goal
 
 pub returns-then-is_same-clause-fits : goal.returns-then-is_same-clause-fits
 unfolding Fits
