@@ -2,8 +2,8 @@
 """Tries chicheck explain on small traces by chance: traces.py [COUNT [SEED]]
 
 What it answers has to be what trying every order finds of each (small.py, orders.py): whether the trace is explained, and by the order
-that it says; else the granule, the first time, an operation of the granule that ended then, and the words that the granule can hold
-before; or its words at the end. CHICHECK names the program."""
+that it says; else the granule, the first time, an operation of the granule that ended then, the words that the granule can hold before,
+and which other granules of its line of 64 bytes are not explained; or its words at the end. CHICHECK names the program."""
 
 import collections
 import json
@@ -48,13 +48,22 @@ def fault_at_end(trace, granule, words):
     return "" if set(words_left(word, operations)) == words else "the granule can hold other words"
 
 
-def fault_at(trace, granule, time, number, words):
+def unexplained_beside(trace, granule):
+    """The other granules of a line of 64 bytes that no order explains."""
+    openings, final = words_of(trace, "image"), words_of(trace, "final")
+    beside = [it for it in sorted(openings) if it // 64 == granule // 64 and it != granule]
+    return [it for it in beside if not is_explained(openings[it], operations_of(trace, it), final.get(it))]
+
+
+def fault_at(trace, granule, time, number, words, beside):
     word, operations = words_of(trace, "image")[granule], operations_of(trace, granule)
     times = [it for it in (first_time(trace, it) for it in words_of(trace, "image")) if it is not None]
     if time != min(times, default=None) or time != first_time(trace, granule):
         return "it breaks at another time"
     if not any(it.number == number and it.end == time and it.reply is not None for it in operations):
         return "another operation ended then"
+    if beside != unexplained_beside(trace, granule):
+        return "other granules of its line are not explained"
     return "" if not time or set(words_left(word, known_by(operations, time - 1))) == words else "the granule can hold other words"
 
 
@@ -67,7 +76,8 @@ def fault(trace, status, answer):
     granule, words = int(answer["granule"], 16), set(map(bytes.fromhex, answer["words"] or []))
     if "at_end" in answer:
         return fault_at_end(trace, granule, words)
-    return fault_at(trace, granule, int(answer["time"]), answer["blamed"]["request"], words)
+    beside = [int(it, 16) for it in answer["also_not_explained"]]
+    return fault_at(trace, granule, int(answer["time"]), answer["blamed"]["request"], words, beside)
 
 
 def tried(number):

@@ -1,3 +1,4 @@
+pub mod LinePlaces
 mod Operations
 pub mod Places
 mod Spent

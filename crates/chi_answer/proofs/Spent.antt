@@ -1,35 +1,55 @@
 -- the states that were looked at on the way to an answer
-use Rattle.std.proofs.Common.{◌≡◌, ◌⊎◌, ℕ, ◌+◌, ◌-◌, ◌≤◌, Bool, [], Option, None, Some, Result, Ok, Err, IfOk, inl, inr, refl, subst, arith}
+use Rattle.std.proofs.Common.{◌≡◌, ◌⊎◌, ℕ, ◌+◌, ◌-◌, ◌≤◌, Bool, List, [], Option, None, Some, Result, Ok, Err, IfOk, inl, inr, refl, subst, arith}
 use Rattle.chi_verdict.specs.Doubts.{IsAsFar as IsFoundAsFar}
 use Rattle.chi_search.specs.Looks.{FoundThenLooked, LookedAtLeast, LookedMore, LookedSome, Search, after_verdict, for_verdict}
 use Rattle.chi_judge.proofs.AsFar.{as_far_by}
 use Rattle.chi_trace.specs.Words.{word_or_zero}
 use Rattle.chi_verdict.specs.declared.first.Blame.{Blame}
 use Rattle.chi_trace.specs.Traces.{TraceValue}
+use Rattle.chi_answer.specs.Beside.{TellsAll}
 use Rattle.chi_answer.specs.declared.answer.Answer.{Answer}
+use Rattle.chi_answer.specs.declared.answer.Further.{Further}
+use Rattle.chi_reading.specs.TraceText.{RecordedValue}
 use Rattle.chi_answer.specs.declared.answer.Answer.TheVariants.{Explained, Blamed, Unexplained, Undecided}
-use Rattle.chi_answer.specs.Answers.{IfUndecided, IsAsFar, LookedForAnswer, SaysUnless, SpentAfter, SpentTwice}
+use Rattle.chi_answer.specs.Answers.{IfUndecided, IsAsFar, LookedForAnswer, SaysLegalUnless, SaysUnless, SpentAfter, SpentTwice}
 
 -- what follows of what was spent
-pub said_weaker : {A B : Type 0} {E : Type 0} → (A → B) → (result : Result Answer E) → IfOk result (SaysUnless A) → IfOk result (SaysUnless B)
-said_weaker f (Ok (Explained order)) said = tt
-said_weaker f (Ok (Blamed blame (Some is_explained))) said = tt
-said_weaker f (Ok (Blamed blame None)) said = elim said [
+legal_weaker : {A B : Type 0} → (A → B) → (blame : Blame) (said : Option Bool) → SaysLegalUnless A blame said → SaysLegalUnless B blame said
+legal_weaker f blame (Some is_explained) said = tt
+legal_weaker f blame None said = elim said [
   | inl none ↦ inl none
   | inr spent ↦ inr (f spent)
 ]
-said_weaker f (Ok (Unexplained granule words)) said = tt
-said_weaker f (Ok (Undecided doubt)) said = tt
-said_weaker f (Err e) said = tt
 
--- where it is not found of the legal replies, none is listed, or the whole budget was spent
-pub said_by : {P : Type 0} (looked : Search → P → ℕ → Type 0) (old new : P) (budget left : ℕ) (blame : Blame) (said : Option Bool)
-    → (said ≡ None → (left ≡ 0) ⊎ (blame.stop.legal.items ≡ [])) → LookedMore looked old new (budget - left) → SaysUnless (LookedAtLeast looked old new budget) (Blamed blame said)
-said_by looked old new budget left blame (Some is_explained) unknown more = tt
-said_by looked old new budget left blame None unknown more = elim (unknown refl) [
-  | inl spent ↦ inr (budget - left, omega (arith, spent), more)
-  | inr none ↦ inl none
+all_weaker : {A B : Type 0} → (A → B) → (r : RecordedValue) (granule : ℕ) (beside : List ℕ) → TellsAll A r granule beside → TellsAll B r granule beside
+all_weaker f r granule beside all g is = elim (all g is) [
+  | inl told ↦ inl told
+  | inr spent ↦ inr (f spent)
 ]
+
+pub said_weaker : {A B : Type 0} {E : Type 0} → (A → B) → (r : RecordedValue) (result : Result Answer E) → IfOk result (SaysUnless r A) → IfOk result (SaysUnless r B)
+said_weaker f r (Ok (Explained order)) said = tt
+said_weaker f r (Ok (Blamed blame further)) said = (legal_weaker f blame further.to_the_end said.0, all_weaker f r blame.granule further.beside.items said.1)
+said_weaker f r (Ok (Unexplained granule words)) said = tt
+said_weaker f r (Ok (Undecided doubt)) said = tt
+said_weaker f r (Err e) said = tt
+
+module _ {P : Type 0} (looked : Search → P → ℕ → Type 0) (old new : P) (budget left : ℕ) (more : LookedMore looked old new (budget - left)) where
+  whole : left ≡ 0 → LookedAtLeast looked old new budget
+  whole spent = (budget - left, omega (arith, spent), more)
+
+  -- where it is not found of the legal replies, none is listed, or the whole budget was spent
+  legal_by : (blame : Blame) (said : Option Bool) → (said ≡ None → (left ≡ 0) ⊎ (blame.stop.legal.items ≡ [])) → SaysLegalUnless (LookedAtLeast looked old new budget) blame said
+  legal_by blame (Some is_explained) unknown = tt
+  legal_by blame None unknown = elim (unknown refl) [
+    | inl spent ↦ inr (whole spent)
+    | inr none ↦ inl none
+  ]
+
+  -- and of the other granules too
+  pub said_by : (r : RecordedValue) (blame : Blame) (further : Further) → (further.to_the_end ≡ None → (left ≡ 0) ⊎ (blame.stop.legal.items ≡ []))
+      → TellsAll (left ≡ 0) r blame.granule further.beside.items → SaysUnless r (LookedAtLeast looked old new budget) (Blamed blame further)
+  said_by r blame further unknown all = (legal_by blame further.to_the_end unknown, all_weaker whole r blame.granule further.beside.items all)
 
 module _ {P : Type 0} (states : P → ℕ → Type 0) (looked : Search → P → ℕ → Type 0) where
   -- a search for a verdict, which is told when it begins and when it ends
@@ -47,7 +67,7 @@ module _ {P : Type 0} (states : P → ℕ → Type 0) (looked : Search → P →
     -- an answer that is not undecided
     decided : (answer : Answer) → LookedSome looked middle new → IfUndecided answer (λ doubt. ⊥) → LookedForAnswer states looked old new answer
     decided (Explained order) some none = record { count = count; more = some.0; found = then_looked some.0 some.1; undecided = tt }
-    decided (Blamed blame to_the_end) some none = record { count = count; more = some.0; found = then_looked some.0 some.1; undecided = tt }
+    decided (Blamed blame further) some none = record { count = count; more = some.0; found = then_looked some.0 some.1; undecided = tt }
     decided (Unexplained granule words) some none = record { count = count; more = some.0; found = then_looked some.0 some.1; undecided = tt }
     decided (Undecided doubt) some none = absurd none
 
@@ -72,7 +92,7 @@ module _ {P : Type 0} (states : P → ℕ → Type 0) (looked : Search → P →
       where
         by_answer : (a : Answer) → IfUndecided a (λ doubt. doubt.states ≡ budget) → IfUndecided a (λ doubt. doubt.states ≤ count)
         by_answer (Explained order) is = tt
-        by_answer (Blamed blame to_the_end) is = tt
+        by_answer (Blamed blame further) is = tt
         by_answer (Unexplained granule words) is = tt
         by_answer (Undecided doubt) is = omega (arith, is, under)
     undecided_after budget (Err e) under states_are some = tt
@@ -81,7 +101,7 @@ module _ {P : Type 0} (states : P → ℕ → Type 0) (looked : Search → P →
     pub far_after : {E : Type 0} (budget : ℕ) (t : TraceValue) (result : Result Answer E) → budget ≤ count → IfOk result (λ answer. IfUndecided answer (IsFoundAsFar looked middle new budget t))
         → IfOk result (λ answer. IfUndecided answer (IsAsFar states looked old new budget t))
     far_after budget t (Ok (Explained order)) under far = tt
-    far_after budget t (Ok (Blamed blame to_the_end)) under far = tt
+    far_after budget t (Ok (Blamed blame further)) under far = tt
     far_after budget t (Ok (Unexplained granule words)) under far = tt
     far_after budget t (Ok (Undecided doubt)) under far =
         as_far_by (LookedAtLeast looked middle new budget) (SpentTwice states looked old new budget) (λ whole. (count, under, (whole.0, whole.1, then_looked whole.0 whole.2)))
@@ -92,7 +112,7 @@ module _ {P : Type 0} (states : P → ℕ → Type 0) (looked : Search → P →
   pub far_decided : {E : Type 0} (old new : P) (budget : ℕ) (t : TraceValue) (result : Result Answer E)
       → IfOk result (λ answer. IfUndecided answer (λ doubt. ⊥)) → IfOk result (λ answer. IfUndecided answer (IsAsFar states looked old new budget t))
   far_decided old new budget t (Ok (Explained order)) none = tt
-  far_decided old new budget t (Ok (Blamed blame to_the_end)) none = tt
+  far_decided old new budget t (Ok (Blamed blame further)) none = tt
   far_decided old new budget t (Ok (Unexplained granule words)) none = tt
   far_decided old new budget t (Ok (Undecided doubt)) none = absurd none
   far_decided old new budget t (Err e) none = tt

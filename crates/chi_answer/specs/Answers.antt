@@ -14,6 +14,7 @@ use Rattle.chi_verdict.specs.declared.verdict.Verdict.{Verdict}
 use Rattle.chi_trace.specs.Traces.{CanHold, IsExplained, IsExplainedIn, IsLegal, TraceValue}
 use Rattle.chi_trace.specs.Words.{word_or_zero}
 use Rattle.chi_reading.specs.TraceText.{RecordedValue}
+use Rattle.chi_answer.specs.Beside.{AreBeside, TellsAll}
 use Rattle.chi_answer.specs.declared.answer.Answer.{Answer}
 use Rattle.chi_answer.specs.declared.answer.Answer.TheVariants.{Explained, Blamed, Unexplained, Undecided}
 
@@ -38,22 +39,26 @@ SaysLegal r blame to_the_end = IsSaid to_the_end (SomeExplains r.trace r.final_w
 -- that was not decided does
 abbrev pub IsAnswer : RecordedValue → ℕ → Answer → Type 0
 IsAnswer r most (Explained order) = IsExplained r.trace r.final_words order.items
-IsAnswer r most (Blamed blame to_the_end) = IsUnexplained r × IsBlame r.trace most blame × SaysLegal r blame to_the_end
+IsAnswer r most (Blamed blame further) = IsUnexplained r × IsBlame r.trace most blame × SaysLegal r blame further.to_the_end × AreBeside r blame.granule further.beside.items
 IsAnswer r most (Unexplained granule words) = IsUnexplained r × IsUnexplainedIn r granule × IfWords words (AreHeld r granule)
 IsAnswer r most (Undecided doubt) = IsDoubt r.trace doubt
 
 -- where it is not said, no response is listed as legal, or this was spent
-abbrev pub SaysUnless : Type 0 → Answer → Type 0
-SaysUnless Spent (Explained order) = Unit {0}
-SaysUnless Spent (Blamed blame (Some is_explained)) = Unit {0}
-SaysUnless Spent (Blamed blame None) = (blame.stop.legal.items ≡ []) ⊎ Spent
-SaysUnless Spent (Unexplained granule words) = Unit {0}
-SaysUnless Spent (Undecided doubt) = Unit {0}
+abbrev pub SaysLegalUnless : Type 0 → Blame → Option Bool → Type 0
+SaysLegalUnless Spent blame (Some is_explained) = Unit {0}
+SaysLegalUnless Spent blame None = (blame.stop.legal.items ≡ []) ⊎ Spent
+
+-- all is said that there is to say further, or this was spent
+abbrev pub SaysUnless : RecordedValue → Type 0 → Answer → Type 0
+SaysUnless r Spent (Explained order) = Unit {0}
+SaysUnless r Spent (Blamed blame further) = SaysLegalUnless Spent blame further.to_the_end × TellsAll Spent r blame.granule further.beside.items
+SaysUnless r Spent (Unexplained granule words) = Unit {0}
+SaysUnless r Spent (Undecided doubt) = Unit {0}
 
 -- P of what is said of a granule that was not decided
 abbrev pub IfUndecided : Answer → (Doubt → Type 0) → Type 0
 IfUndecided (Explained order) P = Unit {0}
-IfUndecided (Blamed blame to_the_end) P = Unit {0}
+IfUndecided (Blamed blame further) P = Unit {0}
 IfUndecided (Unexplained granule words) P = Unit {0}
 IfUndecided (Undecided doubt) P = P doubt
 

@@ -1,8 +1,9 @@
 pub mod Answers
+pub mod Beside
 pub mod CutShort
 pub mod DoubtLines
+pub mod FurtherLines
 pub mod Lines
 pub mod Stops
 pub mod Texts
-pub mod ToTheEnd
 pub mod Witnesses

@@ -10,7 +10,7 @@ use Rattle.chi_answer.specs.declared.answer.Answer.TheVariants.{Explained, Blame
 use Rattle.chi_answer.specs.DoubtLines.{doubt_text}
 use Rattle.chi_answer.specs.Lines.{end_line, granule_line, word_lines}
 use Rattle.chi_answer.specs.Stops.{stop_text}
-use Rattle.chi_answer.specs.ToTheEnd.{to_the_end_line}
+use Rattle.chi_answer.specs.FurtherLines.{further_lines}
 use Rattle.chi_answer.specs.Witnesses.{IsWitness}
 
 -- where the trace stops being explained
@@ -32,6 +32,6 @@ end_text (Some final_word) (Each words) = end_words final_word words.items
 abbrev pub IsText : Bool → RecordedValue → Answer → List ℕ → Type 0
 IsText false r (Explained order) text = text ≡ codes "explained\n"
 IsText true r (Explained order) text = (witness : List ℕ) × IsWitness r order.items witness × (text ≡ codes "explained\n" ++ witness)
-IsText witness r (Blamed blame to_the_end) text = text ≡ blame_text blame ++ to_the_end_line blame.stop.op.number to_the_end
+IsText witness r (Blamed blame further) text = text ≡ blame_text blame ++ further_lines blame.stop.op.number further
 IsText witness r (Unexplained granule words) text = text ≡ granule_line granule ++ end_text (find_word r.final_words granule) words
 IsText witness r (Undecided doubt) text = text ≡ doubt_text doubt

@@ -8,6 +8,7 @@ ghost use Rattle.chi_verdict.specs.Verdicts.{IfExplained, IfUnexplained, IfUndec
 ghost use Rattle.chi_search.specs.Looks.{LookedAtLeast, LookedSome};
 ghost use Rattle.chi_answer.specs.Answers.{FoundVerdict, IfUndecided, IsAnswer, IsAsFar, IsUnexplained, IsUnexplainedIn, LookedForAnswer, SaysUnless, SpentAfter};
 
+use crate::beside::unexplained_beside;
 use chi_reading::Recorded;
 use chi_search::{Progress, Words};
 use chi_verdict::{
@@ -16,27 +17,27 @@ use chi_verdict::{
 };
 use std::alloc::{AllocError, Global};
 
+/// What else is found of a trace that stops being explained: whether one of the responses that are listed as legal explains the granule
+/// to its end, where that was found; and the other granules of its line of 64 bytes that no order explains, in the order of their
+/// addresses.
+#[derive(Debug, Drop)]
+pub struct Further {
+    pub to_the_end: Option<bool>,
+    pub beside: Vec<u64>,
+}
+
 /// What is answered of a trace.
 ///
 /// - `Explained`: the operations in this order are what a home could have done, and leave the words at the end.
-/// - `Blamed`: they cannot be explained, and where they stop being explainable; and whether one of the responses that are listed as
-///   legal explains the granule to its end, where that was found.
+/// - `Blamed`: they cannot be explained, and where they stop being explainable, and what else is found of that.
 /// - `Unexplained`: those of a granule cannot be explained. The words are those with which they could be, where only the word
 ///   at the end is wrong and they were found.
 /// - `Undecided`: neither was found of a granule, and what is said of it.
 #[derive(Debug, Drop)]
 pub enum Answer {
-    Explained {
-        order: Vec<usize>,
-    },
-    Blamed {
-        blame: Blame,
-        to_the_end: Option<bool>,
-    },
-    Unexplained {
-        granule: u64,
-        words: Words,
-    },
+    Explained { order: Vec<usize> },
+    Blamed { blame: Blame, further: Further },
+    Unexplained { granule: u64, words: Words },
     Undecided(Doubt),
 }
 
@@ -73,14 +74,16 @@ fn blamed<P: Progress>(
     requires blame { IsBlame recorded.now.trace shown blame }
     ensures right { IfOk result (IsAnswer recorded.now shown) }
     ensures decided { IfOk result (λ answer. IfUndecided answer (λ doubt. ⊥)) }
-    ensures said { IfOk result (SaysUnless (LookedAtLeast P.looked progress.old progress.new budget)) }
+    ensures said { IfOk result (SaysUnless recorded.now (LookedAtLeast P.looked progress.old progress.new budget)) }
     ensures looked { IfOk result (λ _. LookedSome P.looked progress.old progress.new) }
 {
     let mut left = budget;
     let trace = recorded.trace();
     let words = recorded.final_words();
     let to_the_end = legal_to_the_end(alloc, trace, words, &blame, &mut left, progress)?;
-    Ok(Answer::Blamed { blame, to_the_end })
+    let beside = unexplained_beside(alloc, recorded, blame.granule, &mut left, progress)?;
+    let further = Further { to_the_end, beside };
+    Ok(Answer::Blamed { blame, further })
 }
 
 /// The answer of a trace that no order explains, not even the operations of this granule.
@@ -96,7 +99,7 @@ fn unexplained<P: Progress>(
     requires granule { IsUnexplainedIn recorded.now granule }
     ensures right { IfOk result (IsAnswer recorded.now shown) }
     ensures decided { IfOk result (λ answer. IfUndecided answer (λ doubt. ⊥)) }
-    ensures said { IfOk result (SaysUnless (LookedAtLeast P.looked progress.old progress.new budget)) }
+    ensures said { IfOk result (SaysUnless recorded.now (LookedAtLeast P.looked progress.old progress.new budget)) }
     ensures looked { IfOk result (λ _. LookedSome P.looked progress.old progress.new) }
 {
     let trace = recorded.trace();
@@ -118,7 +121,7 @@ fn undecided<P: Progress>(
 ) -> Result<Answer, AllocError>
     ensures right { IfOk result (λ answer. (most : ℕ) → IsAnswer recorded.now most answer) }
     ensures undecided { IfOk result (λ answer. IfUndecided answer (λ doubt. doubt.states ≡ budget)) }
-    ensures said { IfOk result (SaysUnless ⊥) }
+    ensures said { IfOk result (SaysUnless recorded.now ⊥) }
     ensures far { IfOk result (λ answer. IfUndecided answer (IsFoundAsFar P.looked progress.old progress.new budget recorded.now.trace)) }
     ensures looked { IfOk result (λ _. LookedSome P.looked progress.old progress.new) }
 {
@@ -142,7 +145,7 @@ pub fn answer_of<P: Progress>(
     ensures right { IfOk result (IsAnswer recorded.now shown) }
     ensures undecided { IfOk result (λ answer. IfUndecided answer (λ doubt. doubt.states ≡ budget)) }
     ensures far { IfOk result (λ answer. IfUndecided answer (IsAsFar P.states P.looked progress.old progress.new budget recorded.now.trace)) }
-    ensures said { IfOk result (SaysUnless (SpentAfter P.states P.looked progress.old progress.new budget)) }
+    ensures said { IfOk result (SaysUnless recorded.now (SpentAfter P.states P.looked progress.old progress.new budget)) }
     ensures spent { IfOk result (LookedForAnswer P.states P.looked progress.old progress.new) }
 {
     match verdict_of(alloc, recorded, budget, progress)? {

@@ -7,9 +7,9 @@ ghost use Rattle.chi_answer.specs.Texts.{IsText, blame_text, end_text};
 
 use crate::answer::Answer;
 use crate::doubt_lines::add_doubt;
+use crate::further_lines::add_further;
 use crate::lines::{add_granule, add_words};
 use crate::stop_lines::add_stop;
-use crate::to_the_end::add_to_the_end;
 use crate::witness::add_witness;
 use chi_reading::Recorded;
 use chi_search::Words;
@@ -88,9 +88,9 @@ pub fn answer_text(
                 add_witness(alloc, &mut text, recorded, order)?;
             }
         }
-        Answer::Blamed { blame, to_the_end } => {
+        Answer::Blamed { blame, further } => {
             add_blame(&mut text, blame)?;
-            add_to_the_end(&mut text, blame.stop.op.number, *to_the_end)?;
+            add_further(&mut text, blame.stop.op.number, further)?;
         }
         Answer::Unexplained { granule, words } => {
             add_granule(&mut text, *granule)?;

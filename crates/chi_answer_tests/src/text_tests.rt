@@ -131,3 +131,30 @@ fn legal_responses_to_the_end(rt: HostRuntime) -> Result<(), Fail> {
     }
     Ok(())
 }
+
+// Two adds of 1 that are both told 0, on two granules of a line of 64 bytes and on one of the next line; and one add between them.
+const LINES: &str = r#"{"requests": [
+    {"src": 1, "txn": 1, "op": 48, "size": 3, "addr": 4096, "endian": 0, "be": 255,
+     "lanes": "01000000000000000000000000000000", "start": 10, "end": 20, "reply": "00000000000000000000000000000000"},
+    {"src": 2, "txn": 1, "op": 48, "size": 3, "addr": 4096, "endian": 0, "be": 255,
+     "lanes": "01000000000000000000000000000000", "start": 30, "end": 40, "reply": "00000000000000000000000000000000"},
+    {"src": 1, "txn": 2, "op": 48, "size": 3, "addr": 4104, "endian": 0, "be": 65280,
+     "lanes": "00000000000000000100000000000000", "start": 50, "end": 60, "reply": "00000000000000000000000000000000"},
+    {"src": 2, "txn": 2, "op": 48, "size": 3, "addr": 4104, "endian": 0, "be": 65280,
+     "lanes": "00000000000000000100000000000000", "start": 70, "end": 80, "reply": "00000000000000000000000000000000"},
+    {"src": 1, "txn": 3, "op": 48, "size": 3, "addr": 4112, "endian": 0, "be": 255,
+     "lanes": "01000000000000000000000000000000", "start": 90, "end": 100, "reply": "00000000000000000000000000000000"},
+    {"src": 1, "txn": 4, "op": 48, "size": 3, "addr": 4160, "endian": 0, "be": 255,
+     "lanes": "01000000000000000000000000000000", "start": 110, "end": 120, "reply": "00000000000000000000000000000000"},
+    {"src": 2, "txn": 4, "op": 48, "size": 3, "addr": 4160, "endian": 0, "be": 255,
+     "lanes": "01000000000000000000000000000000", "start": 130, "end": 140, "reply": "00000000000000000000000000000000"}]}"#;
+
+#[test]
+fn other_granules_of_the_line(rt: HostRuntime) -> Result<(), Fail> {
+    let found = text(rt.alloc(), LINES, 1000, false)?;
+    let wanted = "  a legal response of request 1 explains the granule to its end
+  also not explained in this line of 64 bytes: 0000000000001008
+";
+    assert_same(&rt, found.ends_with(wanted), true);
+    Ok(())
+}

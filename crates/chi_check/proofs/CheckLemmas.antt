@@ -82,7 +82,7 @@ module _ {P : Type 0} (has_put : P → List ℕ → List ℕ → Type 0) (IsCut 
 pub spent_where_undecided : (options : CheckOptions) (answer : Answer) (count : ℕ) → IfUndecided answer (λ doubt. IsWithin options doubt.states)
     → IfUndecided answer (λ doubt. doubt.states ≤ count) → answer_status answer ≡ 6 → (states : ℕ) × IsWithin options states × (states ≤ count)
 spent_where_undecided options (Explained order) count within spent is = cc
-spent_where_undecided options (Blamed blame to_the_end) count within spent is = cc
+spent_where_undecided options (Blamed blame further) count within spent is = cc
 spent_where_undecided options (Unexplained granule words) count within spent is = cc
 spent_where_undecided options (Undecided doubt) count within spent is = (doubt.states, within, spent)
 
@@ -90,7 +90,7 @@ spent_where_undecided options (Undecided doubt) count within spent is = (doubt.s
 module _ (IsCut May : Option ℕ → Type 0) (may : (cut_short : Option ℕ) → IsCut cut_short → May cut_short) (options : CheckOptions) (r : RecordedValue) where
   lines_by : (answer : Answer) (text : List ℕ) → IsLines IsCut options r answer text → IsLines May options r answer text
   lines_by (Explained order) text is = is
-  lines_by (Blamed blame to_the_end) text (cut_short, is, same) = (cut_short, may cut_short is, same)
+  lines_by (Blamed blame further) text (cut_short, is, same) = (cut_short, may cut_short is, same)
   lines_by (Unexplained granule words) text (whole, text_is, (cut_short, is, same)) = (whole, text_is, (cut_short, may cut_short is, same))
   lines_by (Undecided doubt) text (whole, text_is, (cut_short, is, same)) = (whole, text_is, (cut_short, may cut_short is, same))
 

@@ -46,7 +46,7 @@ status_of (Write fault) = 5
 -- 0 where the trace is explained, 1 where it is not, 6 where that is undecided
 abbrev pub answer_status : Answer → ℕ
 answer_status (Explained order) = 0
-answer_status (Blamed blame to_the_end) = 1
+answer_status (Blamed blame further) = 1
 answer_status (Unexplained granule words) = 1
 answer_status (Undecided doubt) = 6
 

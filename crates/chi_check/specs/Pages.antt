@@ -15,7 +15,7 @@ use Rattle.chi_check.specs.declared.options.CheckOptions.{CheckOptions}
 -- what an answer says of where the trace stops being explained, if it does
 abbrev pub blame_in : Answer → Option Blame
 blame_in (Explained order) = None
-blame_in (Blamed blame to_the_end) = Some blame
+blame_in (Blamed blame further) = Some blame
 blame_in (Unexplained granule words) = None
 blame_in (Undecided doubt) = None
 

@@ -1,10 +1,11 @@
 -- what is written of an answer
-use Rattle.std.specs.Prelude.{◌≡◌, ℕ, ◌++◌, Bool, List, Option}
+use Rattle.std.specs.Prelude.{◌≡◌, ℕ, ◌++◌, List, Option}
 use Rattle.chi_reading.specs.TraceText.{RecordedValue}
 use Rattle.chi_answer.specs.declared.answer.Answer.{Answer}
+use Rattle.chi_answer.specs.declared.answer.Further.{Further}
 use Rattle.chi_answer.specs.declared.answer.Answer.TheVariants.{Explained, Blamed, Unexplained, Undecided}
 use Rattle.chi_answer.specs.CutShort.{cut_short_line}
-use Rattle.chi_answer.specs.ToTheEnd.{to_the_end_line}
+use Rattle.chi_answer.specs.FurtherLines.{further_lines}
 use Rattle.chi_answer.specs.Texts.{IsText}
 use Rattle.chi_excerpt.specs.Failures.{failure_text}
 use Rattle.chi_page.specs.Answers.{answer_json}
@@ -25,20 +26,20 @@ IsTextCut IsCut options r answer text =
 -- what is written of an answer that blames no operation
 abbrev pub IsUsualText : (Option ℕ → Type 0) → CheckOptions → RecordedValue → Answer → List ℕ → Type 0
 IsUsualText IsCut options r (Explained order) text = IsText options.witness r (Explained order) text
-IsUsualText IsCut options r (Blamed blame to_the_end) text = IsTextCut IsCut options r (Blamed blame to_the_end) text
+IsUsualText IsCut options r (Blamed blame further) text = IsTextCut IsCut options r (Blamed blame further) text
 IsUsualText IsCut options r (Unexplained granule words) text = IsTextCut IsCut options r (Unexplained granule words) text
 IsUsualText IsCut options r (Undecided doubt) text = IsTextCut IsCut options r (Undecided doubt) text
 
--- what is written of where the trace stops being explained: the operations of the granule around the one that is blamed, and whether a
--- legal response of it explains the granule to its end
-abbrev pub blamed_text : CheckOptions → RecordedValue → Blame → Option Bool → List ℕ
-blamed_text options r blame to_the_end = failure_text r options.around blame ++ to_the_end_line blame.stop.op.number to_the_end
+-- what is written of where the trace stops being explained: the operations of the granule around the one that is blamed, and what else is
+-- found
+abbrev pub blamed_text : CheckOptions → RecordedValue → Blame → Further → List ℕ
+blamed_text options r blame further = failure_text r options.around blame ++ further_lines blame.stop.op.number further
 
 -- what is written of an answer as text: its text, and more of where the trace stops being explained
 abbrev pub IsLines : (Option ℕ → Type 0) → CheckOptions → RecordedValue → Answer → List ℕ → Type 0
 IsLines IsCut options r (Explained order) text = IsUsualText IsCut options r (Explained order) text
-IsLines IsCut options r (Blamed blame to_the_end) text =
-    (cut_short : Option ℕ) × IsCut cut_short × (text ≡ blamed_text options r blame to_the_end ++ cut_short_line cut_short)
+IsLines IsCut options r (Blamed blame further) text =
+    (cut_short : Option ℕ) × IsCut cut_short × (text ≡ blamed_text options r blame further ++ cut_short_line cut_short)
 IsLines IsCut options r (Unexplained granule words) text = IsUsualText IsCut options r (Unexplained granule words) text
 IsLines IsCut options r (Undecided doubt) text = IsUsualText IsCut options r (Undecided doubt) text
 

@@ -36,7 +36,7 @@ fn answer_status(answer: &Answer) -> u8
         Answer::Explained { order: _ } => 0,
         Answer::Blamed {
             blame: _,
-            to_the_end: _,
+            further: _,
         } => 1,
         Answer::Unexplained {
             granule: _,

@@ -46,10 +46,7 @@ fn page_of_answer(
     ensures { IfOk result (λ page. IsPage recorded.now (blame_in answer.now) page.items) }
 {
     match answer {
-        Answer::Blamed {
-            blame,
-            to_the_end: _,
-        } => blamed_page(alloc, recorded, blame, budget),
+        Answer::Blamed { blame, further: _ } => blamed_page(alloc, recorded, blame, budget),
         _ => usual_page(alloc, recorded, budget),
     }
 }

@@ -6,7 +6,7 @@ ghost use Rattle.chi_answer.specs.CutShort.{cut_short_line};
 ghost use Rattle.chi_check.specs.Written.{IsLines, IsUsualText, IsWritten, blamed_text};
 
 use crate::options::CheckOptions;
-use chi_answer::{Answer, AnswerFormat, add_cut_short, add_to_the_end, answer_text};
+use chi_answer::{Answer, AnswerFormat, Further, add_cut_short, add_further, answer_text};
 use chi_excerpt::failure_text;
 use chi_page::answer_json;
 use chi_reading::Recorded;
@@ -18,14 +18,14 @@ fn blamed_text(
     alloc: Global,
     recorded: &Recorded,
     blame: &Blame,
-    to_the_end: Option<bool>,
+    further: &Further,
     options: &CheckOptions<'_>,
     cut_short: Option<u64>,
 ) -> Result<Vec<u8>, AllocError>
-    ensures { IfOk result (λ text. text.items ≡ blamed_text options.now recorded.now blame.now to_the_end ++ cut_short_line cut_short) }
+    ensures { IfOk result (λ text. text.items ≡ blamed_text options.now recorded.now blame.now further.now ++ cut_short_line cut_short) }
 {
     let mut text = failure_text(alloc, recorded, blame, options.around as usize)?;
-    add_to_the_end(&mut text, blame.stop.op.number, to_the_end)?;
+    add_further(&mut text, blame.stop.op.number, further)?;
     add_cut_short(&mut text, cut_short)?;
     Ok(text)
 }
@@ -61,13 +61,8 @@ fn lines_of(
     ensures { IfOk result (λ text. IsLines (λ cut. cut ≡ cut_short) options.now recorded.now answer.now text.items) }
 {
     match answer {
-        Answer::Blamed { blame, to_the_end } => blamed_text(
-            alloc,
-            recorded,
-            blame,
-            *to_the_end,
-            options,
-            cut_short,
+        Answer::Blamed { blame, further } => blamed_text(
+            alloc, recorded, blame, further, options, cut_short,
         ),
         other => usual_text(alloc, recorded, other, options, cut_short),
     }

@@ -1,6 +1,7 @@
 -- an answer as JSON: an object on one line
 use Rattle.std.specs.Prelude.{ℕ, Bool, true, false, List, ◌++◌, codes, decimal, Option, None, Some}
 use Rattle.chi_answer.specs.declared.answer.Answer.{Answer}
+use Rattle.chi_answer.specs.declared.answer.Further.{Further}
 use Rattle.chi_answer.specs.declared.answer.Answer.TheVariants.{Explained, Blamed, Unexplained, Undecided}
 use Rattle.chi_excerpt.specs.Failures.{last_operations, order_in}
 use Rattle.chi_judge.specs.declared.reach.Stop.{Stop}
@@ -11,7 +12,7 @@ use Rattle.chi_trace.specs.Words.{find_word}
 use Rattle.chi_trace.specs.declared.operation.Operation.{Operation}
 use Rattle.chi_verdict.specs.declared.doubt.Doubt.{Doubt}
 use Rattle.chi_verdict.specs.declared.first.Blame.{Blame}
-use Rattle.chi_page.specs.Granules.{granule_json, requests_json, told_json, words_json}
+use Rattle.chi_page.specs.Granules.{addresses_json, granule_json, requests_json, told_json, words_json}
 use Rattle.chi_page.specs.Objects.{object_json, objects_json, replies_json}
 
 -- a time or a count of states, which may be too great for a number of JSON; null where there is none
@@ -58,11 +59,15 @@ before_members s order to_the_end =
     codes ",\"before\":" ++ (objects_json s.before.items ++ (codes ",\"order\":" ++ (numbers_json order ++ (codes ",\"legal\":" ++ (replies_json s.legal.items
     ++ (codes ",\"legal_to_the_end\":" ++ to_the_end_json to_the_end))))))
 
+-- the other granules of the line of 64 bytes that no order explains
+unfoldable pub beside_member : List ℕ → List ℕ
+beside_member beside = codes ",\"also_not_explained\":[" ++ (addresses_json beside ++ codes "]")
+
 -- where a trace stops being explained
-unfoldable pub stopped_json : RecordedValue → ℕ → Blame → Option Bool → Option ℕ → List ℕ
-stopped_json r around blame to_the_end cut_short =
+unfoldable pub stopped_json : RecordedValue → ℕ → Blame → Further → Option ℕ → List ℕ
+stopped_json r around blame further cut_short =
     granule_members blame.granule ++ (stop_members blame.stop
-    ++ (before_members blame.stop (last_operations r around (order_in r blame.granule blame.order.items)) to_the_end ++ cut_short_json cut_short))
+    ++ (before_members blame.stop (last_operations r around (order_in r blame.granule blame.order.items)) further.to_the_end ++ (beside_member further.beside.items ++ cut_short_json cut_short)))
 
 -- the word of a granule that was told at the end, and the words that it can hold
 unfoldable pub end_members : Option ℕ → Words → List ℕ
@@ -86,6 +91,6 @@ undecided_json doubt cut_short =
 -- that is blamed
 abbrev pub answer_json : RecordedValue → Bool → ℕ → Option ℕ → Answer → List ℕ
 answer_json r witness around cut_short (Explained order) = explained_json r witness order.items
-answer_json r witness around cut_short (Blamed blame to_the_end) = stopped_json r around blame to_the_end cut_short
+answer_json r witness around cut_short (Blamed blame further) = stopped_json r around blame further cut_short
 answer_json r witness around cut_short (Unexplained granule words) = at_end_json granule (find_word r.final_words granule) words cut_short
 answer_json r witness around cut_short (Undecided doubt) = undecided_json doubt cut_short

@@ -75,6 +75,10 @@ requests_json ops = listed comma (λ n. decimal (at ops n).number) (length ops)
 unfoldable pub each_word_json : List ℕ → List ℕ
 each_word_json words = listed comma (λ n. word_json (slice_index words n)) (length words)
 
+-- granules, by their addresses
+unfoldable pub addresses_json : List ℕ → List ℕ
+addresses_json granules = listed comma (λ n. granule_json (slice_index granules n)) (length granules)
+
 -- the words that the granule can hold, or null where they were not found
 unfoldable pub words_json : Words → List ℕ
 words_json (Each words) = codes "[" ++ (each_word_json words.items ++ codes "]")

@@ -104,14 +104,8 @@ pub fn answer_json(
         Answer::Explained { order } => {
             add_explained(alloc, &mut text, recorded, witness, order)?
         }
-        Answer::Blamed { blame, to_the_end } => add_stopped(
-            alloc,
-            &mut text,
-            recorded,
-            around,
-            blame,
-            *to_the_end,
-            cut_short,
+        Answer::Blamed { blame, further } => add_stopped(
+            alloc, &mut text, recorded, around, blame, further, cut_short,
         )?,
         Answer::Unexplained { granule, words } => {
             let final_word = recorded.final_words().get(*granule);

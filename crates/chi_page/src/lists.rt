@@ -1,9 +1,9 @@
-//! Lists of requests' numbers and of words as JSON.
+//! Lists of requests' numbers, of words and of granules as JSON.
 
 ghost use Rattle.std.specs.Prelude.{◌≡◌, ◌++◌, OnOk, decimal};
-ghost use Rattle.chi_page.specs.Granules.{each_word_json, requests_json, words_json};
+ghost use Rattle.chi_page.specs.Granules.{addresses_json, each_word_json, requests_json, words_json};
 
-use crate::granule::add_word;
+use crate::granule::{add_granule, add_word};
 use crate::listed::add_between;
 use chi_search::Words;
 use chi_text::Part::{Number, Text};
@@ -36,6 +36,17 @@ fn add_each_word(to: &mut Vec<u8>, words: &[u64]) -> Result<(), AllocError>
     for number in 0..words.len() {
         add_between(to, ",", number)?;
         add_word(to, words[number])?;
+    }
+    Ok(())
+}
+
+/// The addresses of granules.
+pub(crate) fn add_addresses(to: &mut Vec<u8>, granules: &[u64]) -> Result<(), AllocError>
+    ensures { OnOk result (to.new.items ≡ to.old.items ++ addresses_json granules.now) }
+{
+    for number in 0..granules.len() {
+        add_between(to, ",", number)?;
+        add_granule(to, granules[number])?;
     }
     Ok(())
 }

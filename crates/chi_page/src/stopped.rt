@@ -2,11 +2,12 @@
 
 ghost use Rattle.std.specs.Prelude.{◌≡◌, ◌<◌, ◌++◌, All, IfOk, OnOk, length};
 ghost use Rattle.chi_excerpt.specs.Failures.{last_operations, order_in};
-ghost use Rattle.chi_page.specs.Answers.{before_members, cut_short_json, end_members, granule_members, known_json, numbers_json, stop_members, stopped_json, to_the_end_json, undecided_members};
+ghost use Rattle.chi_page.specs.Answers.{before_members, beside_member, cut_short_json, end_members, granule_members, known_json, numbers_json, stop_members, stopped_json, to_the_end_json, undecided_members};
 
 use crate::granule::{add_granule, add_told};
-use crate::lists::{add_requests, add_words};
+use crate::lists::{add_addresses, add_requests, add_words};
 use crate::object::{add_object, add_objects, add_replies};
+use chi_answer::Further;
 use chi_excerpt::order_in;
 use chi_judge::Stop;
 use chi_reading::Recorded;
@@ -111,6 +112,16 @@ pub(crate) fn add_before(
     add_to_the_end(to, to_the_end)
 }
 
+/// The other granules of the line of 64 bytes that no order explains.
+#[tactic(auto, unfolding(crate::specs::Answers::beside_member))]
+fn add_beside(to: &mut Vec<u8>, beside: &[u64]) -> Result<(), AllocError>
+    ensures { OnOk result (to.new.items ≡ to.old.items ++ beside_member beside.now) }
+{
+    add_parts(to, &[Text(",\"also_not_explained\":[")])?;
+    add_addresses(to, beside)?;
+    add_parts(to, &[Text("]")])
+}
+
 /// The word of a granule that was told at the end, and the words that it can hold.
 #[tactic(auto, unfolding(crate::specs::Answers::end_members))]
 pub(crate) fn add_words_at_end(
@@ -184,14 +195,15 @@ pub(crate) fn add_stopped(
     recorded: &Recorded,
     around: usize,
     blame: &Blame,
-    to_the_end: Option<bool>,
+    further: &Further,
     cut_short: Option<u64>,
 ) -> Result<(), AllocError>
-    ensures { OnOk result (to.new.items ≡ to.old.items ++ stopped_json recorded.now around blame.now to_the_end cut_short) }
+    ensures { OnOk result (to.new.items ≡ to.old.items ++ stopped_json recorded.now around blame.now further.now cut_short) }
 {
     let order = last_before(alloc, recorded, around, blame)?;
     add_unexplained(to, blame.granule)?;
     add_stop(to, &blame.stop)?;
-    add_before(to, &blame.stop, &order, to_the_end)?;
+    add_before(to, &blame.stop, &order, further.to_the_end)?;
+    add_beside(to, &further.beside)?;
     add_cut_short(to, cut_short)
 }

@@ -36,8 +36,8 @@ returns-in-Undecided-clause-far g c =
 pub returns-in-Unexplained-clause-said : goal.returns-in-Unexplained-clause-said
 returns-in-Unexplained-clause-said g c =
     let spent = c.in_ok-order.ensures.spent in
-    said_weaker (spent_after g.P.Progress.states g.P.Progress.looked c.args.progress.now c.verdict_of.new.progress c.unexplained.new.progress spent.count spent.found c.args.budget) c.unexplained.result
+    said_weaker (spent_after g.P.Progress.states g.P.Progress.looked c.args.progress.now c.verdict_of.new.progress c.unexplained.new.progress spent.count spent.found c.args.budget) c.args.recorded.now c.unexplained.result
     c.unexplained.ensures.said
 
 pub returns-in-Undecided-clause-said : goal.returns-in-Undecided-clause-said
-returns-in-Undecided-clause-said g c = said_weaker (λ never. absurd never) c.undecided.result c.undecided.ensures.said
+returns-in-Undecided-clause-said g c = said_weaker (λ never. absurd never) c.args.recorded.now c.undecided.result c.undecided.ensures.said

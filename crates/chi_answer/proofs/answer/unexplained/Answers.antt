@@ -20,7 +20,7 @@ returns-in-At-clause-looked g c =
 pub returns-in-At-clause-said : goal.returns-in-At-clause-said
 returns-in-At-clause-said g c =
     let spent = c.in_ok-blame.ensures.spent in
-    said_weaker (λ whole. at_least_after g.P.Progress.looked c.args.progress.now c.first_unexplained.new.progress c.blamed.new.progress c.args.budget (spent.count, spent.more) whole) c.blamed.result c.blamed.ensures.said
+    said_weaker (λ whole. at_least_after g.P.Progress.looked c.args.progress.now c.first_unexplained.new.progress c.blamed.new.progress c.args.budget (spent.count, spent.more) whole) c.args.recorded.now c.blamed.result c.blamed.ensures.said
 
 pub returns : goal.returns
 returns g c = record {

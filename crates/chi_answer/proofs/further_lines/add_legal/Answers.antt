@@ -1,7 +1,7 @@
 -- the parts are the line
 use Rattle.std.proofs.Common.{append-nil}
-use Rattle.chi_answer.specs.ToTheEnd.{explained_line}
-use Rattle.chi_answer.proofs.to_the_end.add_legal.Goals as goal
+use Rattle.chi_answer.specs.FurtherLines.{explained_line}
+use Rattle.chi_answer.proofs.further_lines.add_legal.Goals as goal
 
 pub returns : goal.returns
 unfolding explained_line

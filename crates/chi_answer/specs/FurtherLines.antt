@@ -1,7 +1,9 @@
--- the line of whether a legal response explains a granule to its end
+-- the lines of what else is found of a trace that stops being explained
 use Rattle.std.specs.Prelude.{ℕ, Bool, true, false, List, [], ◌++◌, codes, decimal, Option, None, Some}
+use Rattle.chi_answer.specs.Beside.{beside_line}
+use Rattle.chi_answer.specs.declared.answer.Further.{Further}
 
--- how it is told
+-- how it is told whether a legal response explains the granule to its end
 abbrev pub legal_words : Bool → List ℕ
 legal_words true = codes "  a legal response of request "
 legal_words false = codes "  no legal response of request "
@@ -14,3 +16,7 @@ explained_line number is_explained = legal_words is_explained ++ (decimal number
 abbrev pub to_the_end_line : ℕ → Option Bool → List ℕ
 to_the_end_line number None = []
 to_the_end_line number (Some is_explained) = explained_line number is_explained
+
+-- both lines, of the request with this number
+abbrev pub further_lines : ℕ → Further → List ℕ
+further_lines number further = to_the_end_line number further.to_the_end ++ beside_line further.beside.items
