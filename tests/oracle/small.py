@@ -14,6 +14,14 @@ def turn_bits(chance, requests, words):
         it["reply"] = reply.hex()
 
 
+def turn_bits_of_each(chance, requests, words):
+    """Turns bits of a byte that came back of each granule."""
+    for granule in words:
+        own = [it for it in requests if granule_of(it) == granule]
+        if own:
+            turn_bits(chance, own, words)
+
+
 def neighbours(chance, requests):
     """Two requests of one granule that were executed one after the other, where there are such."""
     by_granule = [[it for it in requests if granule_of(it) == granule] for granule in set(map(granule_of, requests))]
@@ -48,6 +56,7 @@ def change_word(chance, requests, words):
 WAYS = {
     "intact": None,
     "a reply's bits turned": turn_bits,
+    "bits of each granule's replies turned": turn_bits_of_each,
     "two replies exchanged": exchange_replies,
     "an update lost": None,
     "an interval moved": move_interval,
