@@ -1,5 +1,6 @@
 pub mod FlatLemmas
 pub mod FlatReading
+pub mod NumberLemmas
 pub mod ObjectLemmas
 mod ShownTexts
 mod UnknownNames

@@ -1,6 +1,6 @@
 //! Objects that are read with no allocation: of few members, none of which is a list or an object.
 
-ghost use Rattle.std.specs.Prelude.{◌≡◌, IsTrue, None, map};
+ghost use Rattle.std.specs.Prelude.{◌≡◌, [], IsTrue, None, map};
 ghost use Rattle.std.specs.Option.{option_map};
 ghost use Rattle.serde_json.specs.Data.{no_members};
 ghost use Rattle.serde_json.specs.Find.{get_member};
@@ -72,6 +72,15 @@ fn are_known<M: Named>(members: &[(&str, Datum<'_>)], known: &[&[M]]) -> bool
 }
 
 impl<'a> FlatObject<'a> {
+    /// An object with no member.
+    pub(crate) fn none() -> FlatObject<'a>
+        ensures { result.members.items ≡ [] }
+    {
+        FlatObject {
+            members: ArrayVec::new(),
+        }
+    }
+
     /// Whether it has only members of these lists, beside those that are ignored.
     ///
     /// ```

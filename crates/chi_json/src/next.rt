@@ -1,11 +1,12 @@
 //! The next value of a text, objects that are read with no allocation, and a text that is one of them.
 
-ghost use Rattle.std.specs.Prelude.{◌≡◌, ◌==◌, ◌<◌, ◌∷◌, ℕ, List, IfSome, IsTrue, Some, false, length, slice_index};
+ghost use Rattle.std.specs.Prelude.{◌≡◌, ◌<◌, [], ◌∷◌, ℕ, List, IfSome, IsTrue, Some, length, slice_index};
+ghost use Rattle.std.specs.Char.{is_ascii_digit};
 ghost use Rattle.json.specs.Json.{items, members, value};
 ghost use Rattle.json.specs.Reads.{token_of};
 ghost use Rattle.json.specs.Token.{Token as SpecToken, begin_array, begin_object};
-ghost use Rattle.serde_json.specs.Data.{no_members, unsigned};
-ghost use Rattle.serde_json.specs.Read.{converted, number_from, number_of, of_items, of_json, of_members};
+ghost use Rattle.serde_json.specs.Data.{unsigned};
+ghost use Rattle.serde_json.specs.Read.{converted, number_of, of_items, of_json, of_members};
 ghost use Rattle.serde_json.specs.View.{items_view, view};
 ghost use Rattle.chi_json.specs.Datum.{datum_data};
 ghost use Rattle.chi_json.specs.Flat.{flat_data, flat_members};
@@ -13,40 +14,32 @@ ghost use Rattle.chi_json.specs.Values.{json_value};
 
 use crate::datum::Datum;
 use crate::flat::FlatObject;
-use arrayvec::ArrayVec;
-use fast_float::Numeral;
 pub use json::Scratch;
 use json::{Reader, Token};
 use serde_json::{Map, Value, put};
 use std::alloc::Global;
 
-/// Whether a number has a minus.
-fn has_minus(bytes: &[u8]) -> bool
-    ensures { result ≡ (slice_index bytes.now 0 == 45) }
+/// Whether a text begins with a digit.
+fn begins_with_digit(text: &[u8]) -> bool
+    ensures { result ≡ is_ascii_digit (slice_index text.now 0) }
 {
-    !bytes.is_empty() && bytes[0] == b'-'
-}
-
-/// The value of a numeral, where it is whole and below 2^64.
-fn whole_numeral(numeral: &Numeral<'_>) -> Option<u64>
-    ensures { IfSome result (λ n. number_from false numeral.now ≡ Some (unsigned n)) }
-{
-    match numeral.to_u64() {
-        Some(number) => Some(number),
-        None => None,
+    match text.first() {
+        Some(byte) => byte.is_ascii_digit(),
+        None => false,
     }
 }
 
-/// The number that a text of JSON writes, where it is whole and below 2^64.
-#[tactic(auto, unfolding(serde_json::specs::Read::number_of))]
+/// The number that a text of JSON writes, where it has digits alone and is below 2^64.
 fn whole(text: &str) -> Option<u64>
     ensures { IfSome result (λ n. number_of text.now ≡ Some (unsigned n)) }
 {
-    let bytes = text.as_bytes();
-    if has_minus(bytes) {
+    if !begins_with_digit(text.as_bytes()) {
         return None;
     }
-    whole_numeral(&Numeral::scan(bytes))
+    match u64::from_str_radix(text, 10) {
+        Ok(number) => Some(number),
+        Err(_) => None,
+    }
 }
 
 /// The value that a token is, where it is neither a list nor an object, nor another number.
@@ -76,25 +69,24 @@ fn datum<'a>(reader: &mut Reader<'a>) -> Option<Datum<'a>>
     datum_of(token)
 }
 
-/// The members up to the end of their object.
-fn read_members<'a>(reader: &mut Reader<'a>) -> Option<FlatObject<'a>>
-    ensures value { IfSome result (λ flat. (depth : ℕ) → converted (λ ms. of_members ms no_members) (members (value depth) (length reader.old) reader.old) ≡ Some (flat_members flat, reader.new)) }
-    ensures shorter { IfSome result (λ flat. length reader.new < length reader.old) }
+/// Adds the members up to the end of their object, and answers whether all were added.
+fn add_members<'a>(reader: &mut Reader<'a>, object: &mut FlatObject<'a>) -> bool
+    ensures value { IsTrue result → (depth : ℕ) → converted (λ ms. of_members ms (flat_members object.old)) (members (value depth) (length reader.old) reader.old) ≡ Some (flat_members object.new, reader.new) }
+    ensures shorter { IsTrue result → length reader.new < length reader.old }
 {
-    let mut members = ArrayVec::new();
-    'members: while !members.is_full() {
+    'members: while !object.members.is_full() {
         let Ok(next) = reader.next_key() else {
-            return None;
+            return false;
         };
         let Some(name) = next else {
-            return Some(FlatObject { members });
+            return true;
         };
         let Some(value) = datum(reader) else {
-            return None;
+            return false;
         };
-        members.push((name, value));
+        object.members.push((name, value));
     }
-    None
+    false
 }
 
 /// Whether the text goes on with an object, whose members then follow.
@@ -126,6 +118,15 @@ pub fn begins_list(reader: &mut Reader<'_>) -> bool
     }
 }
 
+/// Puts the members of the object that comes next into one that has none yet, and answers whether it did.
+#[inline(always)]
+fn read_object<'a>(reader: &mut Reader<'a>, object: &mut FlatObject<'a>) -> bool
+    ensures value { IsTrue result → object.old.members.items ≡ [] → (depth : ℕ) → 0 < depth → converted of_json (value depth reader.old) ≡ Some (flat_data object.new, reader.new) }
+    ensures shorter { IsTrue result → length reader.new < length reader.old }
+{
+    begins_object(reader) && add_members(reader, object)
+}
+
 /// The next value of a text, where it is an object that a `FlatObject` keeps. Of other values nothing is said, and what then follows
 /// is not to be read.
 ///
@@ -137,8 +138,9 @@ pub fn next_object<'a>(reader: &mut Reader<'a>) -> Option<FlatObject<'a>>
     ensures value { IfSome result (λ flat. (depth : ℕ) → 0 < depth → converted of_json (value depth reader.old) ≡ Some (flat_data flat, reader.new)) }
     ensures shorter { IfSome result (λ flat. length reader.new < length reader.old) }
 {
-    if begins_object(reader) {
-        read_members(reader)
+    let mut object = FlatObject::none();
+    if read_object(reader, &mut object) {
+        Some(object)
     } else {
         None
     }
@@ -230,11 +232,10 @@ pub fn flat_object<'a>(text: &'a [u8], scratch: &'a mut Scratch) -> Option<FlatO
     let Ok(mut reader) = Reader::new(text, scratch) else {
         return None;
     };
-    let Some(object) = next_object(&mut reader) else {
-        return None;
-    };
-    match reader.next() {
-        Some(_) => None,
-        None => Some(object),
+    let mut object = FlatObject::none();
+    if read_object(&mut reader, &mut object) && reader.next().is_none() {
+        Some(object)
+    } else {
+        None
     }
 }

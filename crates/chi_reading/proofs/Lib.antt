@@ -1,6 +1,7 @@
 mod Elements
 mod Joined
 pub mod LineValues
+mod NamedEvents
 mod ObjectText
 mod OneMore
 mod Outlines

@@ -6,18 +6,14 @@ ghost use Rattle.chi_json.specs.Values.{json_value};
 ghost use Rattle.chi_reading.specs.EventText.{event_text};
 
 use crate::event_line::stated_event;
-use crate::other_kind::{is_of_flit, is_of_trace};
 use chi_events::Event;
 use chi_json::{FlatObject, Scratch, flat_object};
 
 /// The event that an object on the line with this number tells, where the object has no fault.
-#[tactic(auto, unfolding(crate::specs::EventText::event_text, crate::specs::EventText::object_event))]
+#[tactic(auto, using(crate::proofs::NamedEvents::no_other_kind), unfolding(crate::specs::EventText::event_text, crate::specs::EventText::object_event))]
 fn flat_event(number_of_line: u64, object: &FlatObject<'_>) -> Option<Event>
     ensures { IfSome result (λ event. (line : List ℕ) → json_value line ≡ Some (flat_data object.now) → event_text number_of_line line ≡ Ok event) }
 {
-    if is_of_trace(object) || is_of_flit(object) {
-        return None;
-    }
     let Ok((kind, event)) = stated_event(number_of_line, object) else {
         return None;
     };

@@ -2,22 +2,22 @@
 use Rattle.std.proofs.Common.{◌≡◌, ◌<◌, ◌≤◌, ◌-◌, None, Some, length, ap, arith, sym, ◌∙◌}
 use Rattle.json.specs.Json.{members, read_key, value}
 use Rattle.json.proofs.Grammar.{read_key-shorter}
-use Rattle.serde_json.specs.Data.{Members, no_members}
+use Rattle.serde_json.specs.Data.{Members}
 use Rattle.serde_json.specs.Read.{converted, of_members}
 use Rattle.chi_json.specs.Datum.{datum_data}
-use Rattle.chi_json.specs.Flat.{put_all}
+use Rattle.chi_json.specs.Flat.{flat_members}
 use Rattle.chi_json.proofs.FlatLemmas.{put_all-push}
 use Rattle.chi_json.proofs.FlatReading.{member_read, members_over}
-use Rattle.chi_json.proofs.next.read_members.Goals as goal
+use Rattle.chi_json.proofs.next.add_members.Goals as goal
 
 pub returns-in_default-next-clause-value : goal.returns-in_default-next-clause-value
-returns-in_default-next-clause-value c depth =
+returns-in_default-next-clause-value c _ depth =
     let l = c.members in
     let ended : read_key l.reader ≡ Some (None, c.next_key.new.self) = grind arith in
-    l.invariant.3 depth ∙ members_over (value depth) l.invariant.0 l.reader c.next_key.new.self (put_all l.members.items no_members) l.invariant.1 ended
+    l.invariant.3 depth ∙ members_over (value depth) l.invariant.0 l.reader c.next_key.new.self (flat_members l.object) l.invariant.1 ended
 
 pub returns-in_default-next-clause-shorter : goal.returns-in_default-next-clause-shorter
-returns-in_default-next-clause-shorter c =
+returns-in_default-next-clause-shorter c _ =
     let l = c.members in
     let ended : read_key l.reader ≡ Some (None, c.next_key.new.self) = grind arith in
     let less = read_key-shorter l.reader None c.next_key.new.self ended in
@@ -42,6 +42,6 @@ members-preserved c =
       n - 1,
       left,
       still,
-      λ depth. l.invariant.3 depth ∙ member_read (value depth) n k l.reader s r d (put_all l.members.items no_members) some named (c.in-Some-datum.ensures.value depth)
-          ∙ ap (λ (found : Members). converted (λ ms. of_members ms found) (members (value depth) (n - 1) r)) (sym (put_all-push l.members.items _ (c.in-Some.name, c.in-Some-datum.value) c.push.ensures.items)),
+      λ depth. l.invariant.3 depth ∙ member_read (value depth) n k l.reader s r d (flat_members l.object) some named (c.in-Some-datum.ensures.value depth)
+          ∙ ap (λ (found : Members). converted (λ ms. of_members ms found) (members (value depth) (n - 1) r)) (sym (put_all-push l.object.members.items _ (c.in-Some.name, c.in-Some-datum.value) c.push.ensures.items)),
     )
