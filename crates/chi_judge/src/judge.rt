@@ -1,6 +1,6 @@
 //! The operations of one granule that ended last.
 
-ghost use Rattle.std.specs.Prelude.{◌≡◌, ◌≤◌, ◌↔◌, ℕ, [], ◌∷◌, ◌++◌, false, List, IfOk, IsTrue};
+ghost use Rattle.std.specs.Prelude.{◌≡◌, ◌≤◌, ◌↔◌, ℕ, [], ◌∷◌, ◌++◌, false, List, IfOk, IsTrue, OnErr, OnOk};
 ghost use Rattle.chi_trace.specs.declared.operation.Operation.{Operation};
 ghost use Rattle.chi_judge.specs.Judges.{CanBeKept, Keeps};
 
@@ -58,6 +58,18 @@ pub(crate) const FEW: usize = 16;
 /// At how many it looks before that, so that a verdict goes on from the order that was found.
 pub(crate) const FIRST_LOOK: usize = 8;
 
+/// Keeps one operation more. The first takes the room of one, since of many granules that are watched no more is kept.
+fn keep(kept: &mut Vec<Operation>, op: &Operation) -> Result<(), AllocError>
+    ensures items { OnOk result (kept.new.items ≡ kept.old.items ++ op.now ∷ []) }
+    ensures refused { OnErr result (kept.new.items ≡ kept.old.items) }
+{
+    if kept.is_empty() {
+        kept.reserve_exact(1)?;
+    }
+    kept.push(*op)?;
+    Ok(())
+}
+
 impl Judge {
     /// Nothing is told of the granule, which holds this word. Where its operations stop being explained so many of those before
     /// are shown.
@@ -111,7 +123,7 @@ impl Judge {
             return Ok(false);
         }
         if !self.is_stopped {
-            self.kept.push(*op)?;
+            keep(&mut self.kept, op)?;
             self.latest = op.end;
             self.word = word_after(self.word, op);
         }

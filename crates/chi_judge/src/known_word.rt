@@ -1,6 +1,7 @@
 //! A word to which all that was told leads, where one is known.
 
-ghost use Rattle.std.specs.Prelude.{◌≡◌, ◌+◌, ◌^◌, ◌<◌, ◌≤◌, ◌⊎◌, ℕ, IfOk, IfSome, IsTrue, Some};
+ghost use Rattle.std.specs.Prelude.{◌≡◌, ◌+◌, ◌^◌, ◌<◌, ◌≤◌, ◌↔◌, ◌⊎◌, ℕ, IfOk, IfSome, IsTrue, None, Some};
+ghost use Rattle.chi_trace.specs.Granules.{Fits};
 ghost use Rattle.chi_search.specs.Looks.{LookedSome};
 ghost use Rattle.chi_judge.specs.Judges.{LeadsTo, Leaves};
 
@@ -12,7 +13,8 @@ use std::alloc::{AllocError, Global};
 /// The word that an operation leaves after the others, where the word that they left is known and it fits that.
 pub(crate) fn word_after(word: Option<u64>, op: &Operation) -> Option<u64>
     requires { op.now.access.addr + op.now.access.len ≤ 2 ^ 52 }
-    ensures { IfSome result (Leaves word op.now) }
+    ensures leaves { IfSome result (Leaves word op.now) }
+    ensures unfit { result ≡ None → IfSome word (λ v. Fits op.now v → ⊥) }
 {
     step(op, word?)
 }
@@ -44,6 +46,7 @@ pub(crate) fn word_once_left<P: Progress>(
     progress: &mut P,
 ) -> Result<Option<u64>, AllocError>
     ensures known { IfOk result (λ known. IfSome known (λ v. (word ≡ Some v) ⊎ (IsTrue are_all × LeadsTo search.now v))) }
+    ensures still { IfOk result (λ known. IfSome word (λ v. known ≡ Some v)) }
     ensures looked { IfOk result (λ _. LookedSome P.looked progress.old progress.new) }
 {
     match (word, are_all) {
@@ -55,7 +58,7 @@ pub(crate) fn word_once_left<P: Progress>(
 impl Judge {
     /// Whether all that was told is known to lead to a word, which is the final word where one was told.
     pub(crate) fn leads_to(&self, final_word: Option<u64>) -> bool
-        ensures { IsTrue result → (v : ℕ) × (self.now.word ≡ Some v) × IfSome final_word (λ seen. v ≡ seen) }
+        ensures { IsTrue result ↔ ((v : ℕ) × (self.now.word ≡ Some v) × IfSome final_word (λ seen. v ≡ seen)) }
     {
         match (self.word, final_word) {
             (Some(word), Some(seen)) => word == seen,

@@ -34,7 +34,7 @@ returns-then-self-clause-unexplained g c = stopped_none c.granules_stand_alone.e
 pub returns-then-leads_to-clause-explained : goal.returns-then-leads_to-clause-explained
 returns-then-leads_to-clause-explained g c =
     let goes : c.args.self.now.is_stopped ≡ false = ap (λ (v : JudgeValue). v.is_stopped) (sym c.self.view_is) ∙ c.if-self.false in
-    known_explains c.granules_stand_alone.ensures c.args.self.now c.args.final_word goes (c.leads_to.ensures c.if-leads_to.true)
+    known_explains c.granules_stand_alone.ensures c.args.self.now c.args.final_word goes (c.leads_to.ensures.0 c.if-leads_to.true)
 
 pub returns-in-Order-clause-explained : goal.returns-in-Order-clause-explained
 returns-in-Order-clause-explained g c =
