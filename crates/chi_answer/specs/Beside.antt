@@ -1,8 +1,7 @@
 -- the other granules of a line of 64 bytes that no order explains
-use Rattle.std.specs.Prelude.{◌≡◌, ◌⊎◌, ℕ, ◌*◌, ◌/◌, ◌%◌, ◌^◌, ◌<◌, List, [], ◌∷◌, ◌++◌, All, codes, flat_map}
+use Rattle.std.specs.Prelude.{◌≡◌, ◌⊎◌, ℕ, ◌/◌, ◌<◌, List, [], ◌∷◌, ◌++◌, All}
 use Rattle.std.specs.List.{AllPairs, Contains}
 use Rattle.chi_reading.specs.TraceText.{RecordedValue}
-use Rattle.chi_text.specs.Part.{address_text}
 use Rattle.chi_trace.specs.Traces.{IsExplainedIn}
 
 -- it is another granule of the same line
@@ -27,16 +26,3 @@ TellsAll Spent r granule beside = (g : ℕ) → IsBeside granule g → IsToldOrE
 abbrev pub IsGrown : RecordedValue → ℕ → ℕ → List ℕ → List ℕ → Type 0
 IsGrown r granule g old new =
     (new ≡ old) ⊎ ((new ≡ old ++ g ∷ []) × (g ≡ granule → ⊥) × ((order : List ℕ) → IsExplainedIn r.trace r.final_words g order → ⊥))
-
--- a granule, by its address
-unfoldable pub address_word : ℕ → List ℕ
-address_word g = codes " " ++ address_text (g * 8 % 2 ^ 64)
-
--- the line of all of them
-unfoldable pub all_line : List ℕ → List ℕ
-all_line beside = codes "  also not explained in this line of 64 bytes:" ++ (flat_map address_word beside ++ codes "\n")
-
--- the same, where there are any
-abbrev pub beside_line : List ℕ → List ℕ
-beside_line [] = []
-beside_line (g ∷ beside) = all_line (g ∷ beside)

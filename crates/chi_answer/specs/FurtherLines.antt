@@ -1,6 +1,6 @@
 -- the lines of what else is found of a trace that stops being explained
 use Rattle.std.specs.Prelude.{ℕ, Bool, true, false, List, [], ◌++◌, codes, decimal, Option, None, Some}
-use Rattle.chi_answer.specs.Beside.{beside_line}
+use Rattle.chi_answer.specs.BesideLine.{beside_line}
 use Rattle.chi_answer.specs.declared.answer.Further.{Further}
 
 -- how it is told whether a legal response explains the granule to its end

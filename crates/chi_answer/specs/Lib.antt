@@ -1,5 +1,6 @@
 pub mod Answers
 pub mod Beside
+pub mod BesideLine
 pub mod CutShort
 pub mod DoubtLines
 pub mod FurtherLines

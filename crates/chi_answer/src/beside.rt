@@ -12,7 +12,7 @@ use std::alloc::{AllocError, Global};
 /// How many granules of eight bytes a line of 64 bytes has.
 const GRANULES: u64 = 8;
 
-/// Adds a granule where it is another one than the first, and no order explains its operations.
+/// Adds a granule where it is not the blamed one, and no order explains its operations.
 fn add_unexplained<P: Progress>(
     alloc: Global,
     beside: &mut Vec<u64>,

@@ -1,7 +1,7 @@
 //! The line of the other granules of a line of 64 bytes that no order explains.
 
 ghost use Rattle.std.specs.Prelude.{◌≡◌, ◌++◌, OnOk, flat_map};
-ghost use Rattle.chi_answer.specs.Beside.{address_word, all_line, beside_line};
+ghost use Rattle.chi_answer.specs.BesideLine.{address_word, all_line, beside_line};
 
 use chi_text::Part::{Address, Text};
 use chi_text::add_parts;

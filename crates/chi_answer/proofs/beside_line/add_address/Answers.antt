@@ -1,6 +1,6 @@
 -- the parts are the address after a space
 use Rattle.std.proofs.Common.{append-nil}
-use Rattle.chi_answer.specs.Beside.{address_word}
+use Rattle.chi_answer.specs.BesideLine.{address_word}
 use Rattle.chi_answer.proofs.beside_line.add_address.Goals as goal
 
 pub returns : goal.returns

@@ -1,6 +1,6 @@
 -- one part after the other
 use Rattle.std.proofs.Common.{append_assoc, append-nil}
-use Rattle.chi_answer.specs.Beside.{all_line}
+use Rattle.chi_answer.specs.BesideLine.{all_line}
 use Rattle.chi_answer.proofs.beside_line.add_all.Goals as goal
 
 pub returns : goal.returns

@@ -1,5 +1,5 @@
 -- one address more
-use Rattle.chi_answer.specs.Beside.{address_word}
+use Rattle.chi_answer.specs.BesideLine.{address_word}
 use Rattle.chi_text.proofs.Growing.{part_more}
 use Rattle.chi_answer.proofs.beside_line.add_each.Goals as goal
 
