@@ -158,5 +158,5 @@ dv/flits.sh out/dv_flits.jsonl > out/dv_said 2>&1 || fail "the bench that writes
 $checker cover --flits out/dv_flits.jsonl > out/dv_cover || fail "chicheck cover ends with a fault"
 missing=$(grep -E '^missing: (open|an overlap|.* while )' out/dv_cover | grep -vx 'missing: open more than 8' || true)
 [ -z "$missing" ] || fail "of the traffic of 100,000 requests: $missing"
-echo "100,000 requests: $(grep -E '^(open at once|overlaps|requesters|covered): ' out/dv_cover | paste -sd ';')"
+echo "100,000 requests: $(grep -E '^(open at once|overlaps|requesters|(line )?sequences|covered): ' out/dv_cover | paste -sd ';')"
 echo "dv: PASS"

@@ -14,19 +14,19 @@ def try_small(pages):
     """Two operations: what they covered stands in its cells, and all else is missing."""
     browser = pages.browser
     pages.open(cover_sample.page(cover_sample.small()), "a coverage of two operations")
-    same(pages.text(".summary"), "9 of 1338 bins are covered (0%), 1329 are missing.", "summary")
+    same(pages.text(".summary"), "9 of 1410 bins are covered (0%), 1401 are missing.", "summary")
     same(browser.value("[...document.querySelectorAll('h2')].map((it) => it.textContent)"),
-         ["operations: 2 of 1200", "compares: 0 of 16", "writes: 1 of 11", "results: 2 of 68", "open at once: 2 of 5", "overlaps: 1 of 36", "requesters: 1 of 2", "missing: 1329"], "headings")
+         ["operations: 2 of 1200", "compares: 0 of 16", "writes: 1 of 11", "results: 2 of 68", "open at once: 2 of 5", "overlaps: 1 of 36", "requesters: 1 of 2", "sequences: 0 of 36", "line sequences: 0 of 36", "missing: 1401"], "headings")
     tables = browser.value(TABLES)
-    same([len(it) for it in tables], [160, 16, 11, 68, 5, 6, 2, 0], "rows")
+    same([len(it) for it in tables], [160, 16, 11, 68, 5, 6, 2, 6, 6, 0], "rows")
     same(tables[0][81], ["AtomicLoad.ADD", "little-endian", "2 bytes", "0", "0", "1", "0", "0", "0", "0", "0"], "an AtomicLoad of two bytes at lane 4")
     same(tables[0][14], ["WriteNoSnpPtl", "big-endian", "4 bytes", "0", "1", "0", "0"], "a write of four bytes at lane 4")
     same(tables[5][1], ["WriteNoSnpPtl", "0", "0", "0", "1", "0", "0"], "a write while an AtomicLoad was open")
     same(tables[6], [["an overlap with an earlier operation of the same requester", "0"], ["an overlap with an earlier operation of another requester", "1"]], "requesters")
-    same(browser.value(MISSING), 1329, "cells that are missing")
+    same(browser.value(MISSING), 1401, "cells that are missing")
     same(browser.value(STYLE), ["solid", "2px", True], "how a missing cell is marked, beside its colour")
     missing = browser.value("[...document.querySelectorAll('#missing li')].map((it) => it.textContent)")
-    same((len(missing), missing[0], missing[-1]), (1329, "ReadNoSnp, little-endian, 1 byte, lane 0", "an overlap with an earlier operation of the same requester"), "missing bins")
+    same((len(missing), missing[0], missing[-1]), (1401, "ReadNoSnp, little-endian, 1 byte, lane 0", "AtomicCompare after AtomicCompare on the line"), "missing bins")
     same(browser.pdf()[:5], b"%PDF-", "print")
 
 
@@ -43,9 +43,9 @@ def try_choice(pages):
     """The check box is reached by keys, and leaves the rows in which something is missing."""
     browser = pages.browser
     pages.open(cover_sample.page(cover_sample.nearly_whole()), "a coverage of all bins but two")
-    same(pages.text(".summary"), "1336 of 1338 bins are covered (99%), 2 are missing.", "summary")
+    same(pages.text(".summary"), "1408 of 1410 bins are covered (99%), 2 are missing.", "summary")
     same(pages.text("#group-4 td"), "18446744073709551615 or more", "the greatest count")
-    same(len(browser.value(SHOWN)), 268, "rows")
+    same(len(browser.value(SHOWN)), 280, "rows")
     for _ in range(12):
         browser.key("Tab")
         if browser.value("document.activeElement.type") == "checkbox":
@@ -54,7 +54,7 @@ def try_choice(pages):
     same(browser.value(SHOWN), ["AtomicSwap big-endian 8 bytes", "AtomicCompare"], "rows in which something is missing")
     same(browser.value("[...document.querySelectorAll('table')].filter((it) => it.offsetParent !== null).length"), 2, "tables in which something is missing")
     browser.key(" ", " ")
-    same(len(browser.value(SHOWN)), 268, "all rows again")
+    same(len(browser.value(SHOWN)), 280, "all rows again")
 
 
 def try_colours(pages):
@@ -76,5 +76,5 @@ def try_cover(pages):
     try_colours(pages)
     whole = cover_sample.coverage(lambda name: 1)
     pages.open(cover_sample.page(whole), "a coverage of all bins")
-    same(pages.text(".summary"), "1338 of 1338 bins are covered (100%), 0 are missing.", "summary")
+    same(pages.text(".summary"), "1410 of 1410 bins are covered (100%), 0 are missing.", "summary")
     same(pages.browser.value(MISSING), 0, "cells that are missing")

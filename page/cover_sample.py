@@ -29,6 +29,8 @@ def names():
         "open at once": [f"open {depth}" for depth in DEPTHS],
         "overlaps": [f"{later} while {earlier} was open" for earlier in TRANSACTIONS for later in TRANSACTIONS],
         "requesters": [f"an overlap with an earlier operation of {which} requester" for which in ("the same", "another")],
+        "sequences": [f"{later} after {earlier}" for earlier in TRANSACTIONS for later in TRANSACTIONS],
+        "line sequences": [f"{later} after {earlier} on the line" for earlier in TRANSACTIONS for later in TRANSACTIONS],
     }
 
 
@@ -36,7 +38,7 @@ def coverage(count_of, refused=()):
     """What is covered where each bin, by its name, has this count, and requests were refused for these reasons."""
     groups = [{"name": group, "bins": [[name, str(count_of(name))] for name in bins]} for group, bins in names().items()]
     covered = sum(1 for group in groups for bin in group["bins"] if bin[1] != "0")
-    return {"covered": str(covered), "bins": "1338", "percent": str(covered * 100 // 1338), "groups": groups,
+    return {"covered": str(covered), "bins": "1410", "percent": str(covered * 100 // 1410), "groups": groups,
             "refused": [[reason, str(refused.count(reason))] for reason in REASONS]}
 
 

@@ -3,6 +3,7 @@
 
 import json
 import os
+import random
 import sys
 import tempfile
 
@@ -13,6 +14,7 @@ sys.path += ["page", "tests/oracle"]
 import cover_sample
 from coverage import counted_as_json
 from histories import told_by_chance
+from meeting import meeting, met
 from process import CHECKER, HOME, build, data_of, end, run, told, trace, wants
 from samples import REASONS, adds, example, refused_request
 
@@ -31,7 +33,10 @@ COVERED = [
     "AtomicLoad while AtomicLoad was open: 1",
     "requesters: 1 of 2",
     "of another requester: 1",
-    "covered: 6 of 1338 (0%)",
+    "sequences: 1 of 36",
+    "ReadNoSnp after AtomicLoad: 1",
+    "line sequences: 0 of 36",
+    "covered: 7 of 1410 (0%)",
     "missing: ReadNoSnp, little-endian, 1 byte, lane 0",
 ]
 
@@ -43,7 +48,11 @@ COVERED_BINS = {
     "open 2": 1,
     "AtomicLoad while AtomicLoad was open": 1,
     "an overlap with an earlier operation of another requester": 1,
+    "ReadNoSnp after AtomicLoad": 1,
 }
+
+# The groups of operations that overlap or follow one another.
+MET = ["overlaps", "sequences", "line sequences"]
 
 TRACES = [it.removesuffix(".json") for it in os.listdir("examples/traces")]
 
@@ -55,7 +64,7 @@ def counts():
     lines = table.decode().splitlines()
     told(f"table: {status} {errors}", (status, errors) == (0, b"") and lines[0] == COVERED[0])
     told(f"table: its lines {lines}", [it for it in lines if it in COVERED] == COVERED)
-    told("table: those that are missing", sum(it.startswith("missing: ") for it in lines[:-13]) == 1338 - 6)
+    told("table: those that are missing", sum(it.startswith("missing: ") for it in lines[:-13]) == 1410 - 7)
     told("table: no refusals", lines[-13:] == refusals_of([]))
     for percent, status in [("0", 0), ("1", 1), ("100", 1), (str(2**64 - 1), 1)]:
         wants(f"table: {percent} of a hundred", ["cover", "--require", percent], whole, status, table.decode())
@@ -84,7 +93,7 @@ def counts_as_json():
         ("", run(HOME, ["run", "--trace"], run(HOME, ["generate", "--refused", "30"], b"")[1])[1]),
     ]:
         counted_as_json(f"counts: {words}", ["cover", *words.split()], text)
-    added = {"AtomicLoad.ADD, little-endian, 8 bytes, lane 8": 2, "open 1": 2}
+    added = {"AtomicLoad.ADD, little-endian, 8 bytes, lane 8": 2, "open 1": 2, "AtomicLoad after AtomicLoad": 1}
     for case, text, bins, reasons in [
         ("two adds and a read", example("two_adds"), COVERED_BINS, []),
         ("two adds and refusals", refusing, added, ["OutOfRegion", *REASONS]),
@@ -96,6 +105,16 @@ def counts_as_json():
     wants("counts as JSON: no trace", ["cover", "--format", "json"], "[]", 3, errors="chicheck: trace is not an object\n")
     found = run(CHECKER, ["cover", "--format", "xml"], refusing)
     told(f"another form of counts: {found}", found[:2] == (2, b"") and b"the option '--format' takes 'text' or 'json'" in found[2])
+
+
+def met_as_defined():
+    """Of operations by chance the bins of overlaps and of sequences count those that these definitions say, and no others."""
+    for number in range(60):
+        text = trace([*meeting(random.Random(f"met/{number}"))], 16)
+        status, found, errors = run(CHECKER, ["cover", "--format", "json"], text)
+        told(f"met: {number}: {status} {errors}", (status, errors) == (0, b""))
+        bins = [it for group in json.loads(found)["groups"] if group["name"] in MET for it in group["bins"]]
+        told(f"met: {number}: {bins}", {name: int(count) for name, count in bins if count != "0"} == met(json.loads(text)))
 
 
 def refusals_of(reasons):
@@ -158,6 +177,7 @@ def inputs(folder):
 build("chihome", "chicheck")
 counts()
 counts_as_json()
+met_as_defined()
 with tempfile.TemporaryDirectory() as folder:
     inputs(folder)
-end(260)
+end(380)

@@ -53,7 +53,7 @@ def covered():
     same += asks(40, 0, WRITE, LOW) + drops(42, 0) + asks(50, 0, STORE, LOW) + drops(51, 0)
     answer = run(CHECKER, ["cover", "--flits"], text)
     told(f"cover: {answer}", answer == run(CHECKER, ["cover", "--events"], same))
-    for line in ["operations: 4 of 1200", "WriteNoSnpPtl 8: none 0, some 0, all 1", "covered: 6 of 1338 (0%)"]:
+    for line in ["operations: 4 of 1200", "WriteNoSnpPtl 8: none 0, some 0, all 1", "covered: 10 of 1410 (0%)"]:
         told(f"cover: {line}: {answer}", f"{line}\n" in answer[1].decode() and answer[0] == 0)
     counted_as_json("cover", ["cover", "--flits"], text)
 

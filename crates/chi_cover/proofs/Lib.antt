@@ -1,4 +1,5 @@
 pub mod Ends
+pub mod Last
 pub mod Latest
 pub mod Left
 pub mod Likeness

@@ -20,17 +20,17 @@ below_range n k there =
     let is : 0 + i ≡ k = sym (get_or-range_with_len 0 n i k below) ∙ there.2 in
     omega arith
 
-pub within : (bin : Bin) → Contains all_bins bin → number_of bin < 1338
-within bin there = below_range 1338 (number_of bin) (subst (λ ns. Contains ns (number_of bin)) numbered (Contains-map number_of all_bins bin there))
+pub within : (bin : Bin) → Contains all_bins bin → number_of bin < 1410
+within bin there = below_range 1410 (number_of bin) (subst (λ ns. Contains ns (number_of bin)) numbered (Contains-map number_of all_bins bin there))
 
 -- as many counts are above 0 as there are bins with such a count
-pub covered_whole : (counts : List ℕ) → length counts ≡ 1338 → count_by (nat_lt 0) counts ≡ covered_of (count_in counts) all_bins
+pub covered_whole : (counts : List ℕ) → length counts ≡ 1410 → count_by (nat_lt 0) counts ≡ covered_of (count_in counts) all_bins
 unfolding count_in
 covered_whole counts long =
-    let whole : counts ≡ map (slice_index counts) (range_with_len 0 1338) = fill_by_all (slice_index counts) counts 1338 0 long (λ k below. refl) in
+    let whole : counts ≡ map (slice_index counts) (range_with_len 0 1410) = fill_by_all (slice_index counts) counts 1410 0 long (λ k below. refl) in
     ap (count_by (nat_lt 0)) (whole ∙ ap (map (slice_index counts)) (sym numbered))
     ∙ (counted (slice_index counts) (nat_lt 0) (map number_of all_bins) ∙ counted number_of (λ n. nat_lt 0 (slice_index counts n)) all_bins)
 
-pub bin_count : length all_bins ≡ 1338
+pub bin_count : length all_bins ≡ 1410
 unfolding all_bins operation_bins lanes_of
 bin_count = refl

@@ -7,11 +7,12 @@ use Rattle.chi_cover.specs.declared.bin.Bin.{Bin}
 use Rattle.chi_cover.specs.Bins.{all_bins}
 use Rattle.chi_cover.specs.Numbers.{number_of}
 use Rattle.chi_cover.specs.Operations.{own_bins}
+use Rattle.chi_cover.specs.Sequences.{sequence_bins_at}
 use Rattle.chi_cover.specs.Traffic.{traffic_bins}
 
 -- the bins that count the operation at a place, each once
 abbrev pub bins_at : List Operation → ℕ → List Bin
-bins_at trace i = own_bins (at trace i) ++ traffic_bins trace i
+bins_at trace i = own_bins (at trace i) ++ (traffic_bins trace i ++ sequence_bins_at trace i)
 
 -- how often a bin stands in a list
 abbrev pub times_of : Bin → List Bin → ℕ
@@ -39,4 +40,4 @@ covered_of counts bins = count_by (λ bin. nat_lt 0 (counts bin)) bins
 
 -- how many of a hundred that is, rounded down
 abbrev pub percent_of : (Bin → ℕ) → ℕ
-percent_of counts = covered_of counts all_bins * 100 / 1338
+percent_of counts = covered_of counts all_bins * 100 / 1410

@@ -5,7 +5,7 @@ use Rattle.chi_fields.specs.Refusal.{name_of}
 use Rattle.chi_fields.specs.Refusals.{all_refusals}
 use Rattle.chi_fields.specs.declared.refusal.Refusal.{Refusal}
 use Rattle.chi_cover.specs.declared.bin.Bin.{Bin}
-use Rattle.chi_cover.specs.Bins.{all_bins, comparison_bins, enables_bins, open_bins, operation_bins, overlap_bins, requester_bins, result_bins}
+use Rattle.chi_cover.specs.Bins.{all_bins, comparison_bins, enables_bins, line_sequence_bins, open_bins, operation_bins, overlap_bins, requester_bins, result_bins, sequence_bins}
 use Rattle.chi_cover.specs.Counts.{covered_of, percent_of}
 use Rattle.chi_cover.specs.Texts.{bin_name}
 
@@ -29,7 +29,7 @@ bins_json counts bins = join_by (bin_json counts) (codes ",") bins
 abbrev pub all_groups : List (List ℕ × List Bin)
 all_groups =
     (codes "operations", operation_bins) ∷ (codes "compares", comparison_bins) ∷ (codes "writes", enables_bins) ∷ (codes "results", result_bins)
-    ∷ (codes "open at once", open_bins) ∷ (codes "overlaps", overlap_bins) ∷ (codes "requesters", requester_bins) ∷ []
+    ∷ (codes "open at once", open_bins) ∷ (codes "overlaps", overlap_bins) ∷ (codes "requesters", requester_bins) ∷ (codes "sequences", sequence_bins) ∷ (codes "line sequences", line_sequence_bins) ∷ []
 
 -- a group: its name, and its bins
 unfoldable pub group_json : (Bin → ℕ) → List ℕ × List Bin → List ℕ
@@ -41,7 +41,7 @@ groups_json counts = join_by (group_json counts) (codes ",") all_groups
 -- how many bins have counted an operation, and how many of a hundred that is
 unfoldable pub covered_json : (Bin → ℕ) → List ℕ
 covered_json counts =
-    codes "\"covered\":\"" ++ (decimal (covered_of counts all_bins) ++ (codes "\",\"bins\":\"1338\",\"percent\":\"" ++ (decimal (percent_of counts) ++ codes "\"")))
+    codes "\"covered\":\"" ++ (decimal (covered_of counts all_bins) ++ (codes "\",\"bins\":\"1410\",\"percent\":\"" ++ (decimal (percent_of counts) ++ codes "\"")))
 
 -- a reason: its name, and how many requests were refused for it
 unfoldable pub reason_json : (Refusal → ℕ) → Refusal → List ℕ

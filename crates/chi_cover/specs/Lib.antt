@@ -2,10 +2,12 @@ pub mod Added
 pub mod Bins
 pub mod Counts
 pub mod Json
+pub mod Last
 pub mod Numbers
 pub mod Open
 pub mod Operations
 pub mod Page
 pub mod Refusals
+pub mod Sequences
 pub mod Texts
 pub mod Traffic

@@ -6,14 +6,14 @@ use Rattle.chi_fields.specs.declared.kind.Kind.TheVariants.{Load}
 use Rattle.chi_fields.specs.declared.kind.Op.{Op}
 use Rattle.chi_fields.specs.declared.kind.Op.TheVariants.{Add}
 use Rattle.chi_cover.specs.declared.bin.Bin.{Bin}
-use Rattle.chi_cover.specs.declared.bin.Bin.TheVariants.{Operand, Comparison, Enables, Kept, ChangedSign, Wrapped, Open, Overlap, Requester}
+use Rattle.chi_cover.specs.declared.bin.Bin.TheVariants.{Operand, Comparison, Enables, Kept, ChangedSign, Wrapped, Open, Overlap, Requester, Sequence, LineSequence}
 use Rattle.chi_cover.specs.declared.bin.Depth.{Depth}
 use Rattle.chi_cover.specs.declared.bin.Depth.TheVariants.{One, Two, UpToFour, UpToEight, More}
 use Rattle.chi_cover.specs.declared.bin.Enabled.{Enabled}
 use Rattle.chi_cover.specs.declared.bin.Enabled.TheVariants.{NoLane, SomeLanes, AllLanes}
 use Rattle.chi_cover.specs.declared.bin.Transaction.{Transaction}
 use Rattle.chi_cover.specs.declared.bin.Transaction.TheVariants.{ReadNoSnp, WriteNoSnpPtl, AtomicStore, AtomicLoad, AtomicSwap, AtomicCompare}
-use Rattle.chi_cover.specs.Bins.{all_bins, all_kinds, comparison_bins, enables_bins, lanes_of, lengths, open_bins, operation_bins, overlap_bins, requester_bins, result_bins}
+use Rattle.chi_cover.specs.Bins.{all_bins, all_kinds, comparison_bins, enables_bins, lanes_of, lengths, line_sequence_bins, open_bins, operation_bins, overlap_bins, requester_bins, result_bins, sequence_bins}
 use Rattle.chi_cover.specs.Counts.{covered_of, percent_of}
 use Rattle.chi_cover.specs.Operations.{is_add}
 
@@ -52,6 +52,9 @@ bytes_text len = if len == 1 then codes "1 byte" else decimal len ++ codes " byt
 
 abbrev pub overlap_text : Transaction → Transaction → List ℕ
 overlap_text earlier later = transaction_text later ++ (codes " while " ++ (transaction_text earlier ++ codes " was open"))
+
+abbrev pub sequence_text : Transaction → Transaction → List ℕ
+sequence_text earlier later = transaction_text later ++ (codes " after " ++ transaction_text earlier)
 
 abbrev pub requester_text : Bool → List ℕ
 requester_text same = if same then codes "of the same requester" else codes "of another requester"
@@ -119,8 +122,10 @@ bin_name (Wrapped len) = kind_name (Some (Load Add)) ++ (codes ", " ++ (bytes_te
 bin_name (Open depth) = depth_text depth
 bin_name (Overlap earlier later) = overlap_text earlier later
 bin_name (Requester same) = codes "an overlap with an earlier operation " ++ requester_text same
+bin_name (Sequence earlier later) = sequence_text earlier later
+bin_name (LineSequence earlier later) = sequence_text earlier later ++ codes " on the line"
 
--- the row of one bin among the others of a granule, which stands below the head of its group
+-- the row of one bin of traffic or of sequences, which stands below the head of its group
 abbrev pub row_name : Bin → List ℕ
 row_name (Requester same) = requester_text same
 row_name bin = bin_name bin
@@ -135,9 +140,9 @@ missing_line counts bin = if counts bin == 0 then codes "missing: " ++ (bin_name
 -- how many bins have counted an operation
 unfoldable pub covered_line : (Bin → ℕ) → List ℕ
 covered_line counts =
-    codes "covered: " ++ (decimal (covered_of counts all_bins) ++ (codes " of 1338 (" ++ (decimal (percent_of counts) ++ codes "%)\n")))
+    codes "covered: " ++ (decimal (covered_of counts all_bins) ++ (codes " of 1410 (" ++ (decimal (percent_of counts) ++ codes "%)\n")))
 
--- the groups of bins of operations, and those of traffic
+-- the groups of bins of operations, and those of traffic and of sequences
 unfoldable pub operations_text : (Bin → ℕ) → List ℕ
 operations_text counts =
     head_text counts (codes "operations") operation_bins ++ (flat_map (kind_rows counts) all_kinds
@@ -150,7 +155,9 @@ group_text counts name bins = head_text counts name bins ++ flat_map (traffic_ro
 
 unfoldable pub traffic_text : (Bin → ℕ) → List ℕ
 traffic_text counts =
-    group_text counts (codes "open at once") open_bins ++ (group_text counts (codes "overlaps") overlap_bins ++ group_text counts (codes "requesters") requester_bins)
+    group_text counts (codes "open at once") open_bins ++ (group_text counts (codes "overlaps") overlap_bins
+    ++ (group_text counts (codes "requesters") requester_bins ++ (group_text counts (codes "sequences") sequence_bins
+    ++ group_text counts (codes "line sequences") line_sequence_bins)))
 
 -- the table: the groups, how many bins have counted an operation, and those that have not
 unfoldable pub table_text : (Bin → ℕ) → List ℕ

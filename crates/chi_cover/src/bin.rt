@@ -64,6 +64,8 @@ impl Transaction {
 /// - `Open`: one that started while so many operations of its granule were open.
 /// - `Overlap`: a `later` transaction that started while an `earlier` one with a byte of the same operand was open.
 /// - `Requester`: one that started while such an earlier one of the `same` requester was open, or of another.
+/// - `Sequence`: a `later` transaction that started after the one before it on its granule, an `earlier` one, had ended.
+/// - `LineSequence`: the same of the one before it on its line of eight granules, where that is of another granule.
 #[derive(Clone, Copy, Debug)]
 pub enum Bin {
     Operand {
@@ -99,5 +101,13 @@ pub enum Bin {
     },
     Requester {
         same: bool,
+    },
+    Sequence {
+        earlier: Transaction,
+        later: Transaction,
+    },
+    LineSequence {
+        earlier: Transaction,
+        later: Transaction,
     },
 }

@@ -13,7 +13,7 @@ use std::alloc::{AllocError, Global};
 use std::marker::Model;
 
 /// How many bins there are.
-const BINS: usize = 1338;
+const BINS: usize = 1410;
 
 /// How many of these counts are above 0.
 fn above_zero(counts: &[u64]) -> usize
@@ -36,7 +36,7 @@ impl Model for Covered {
     // The count of each bin stands at its number.
     ghost view = { λ c. c.counts.items };
 
-    ghost invariant = { λ c. length c.counts.items ≡ 1338 };
+    ghost invariant = { λ c. length c.counts.items ≡ 1410 };
 }
 
 impl Covered {
@@ -91,7 +91,7 @@ impl Covered {
     /// ```
     pub fn covered(&self) -> usize
         ensures value { result ≡ covered_of (count_in self.now) all_bins }
-        ensures most { result ≤ 1338 }
+        ensures most { result ≤ 1410 }
     {
         above_zero(&self.counts)
     }

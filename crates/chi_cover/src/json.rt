@@ -10,6 +10,7 @@ use crate::covered::Covered;
 use crate::group::{comparison_bins, enables_bins, operation_bins, result_bins};
 use crate::names::add_bin_name;
 use crate::refusals::Refusals;
+use crate::sequence_group::{line_sequence_bins, sequence_bins};
 use crate::traffic_group::{open_bins, overlap_bins, requester_bins};
 use chi_fields::{Refusal, refusal_name};
 use chi_text::Part::{Number, Text};
@@ -100,7 +101,9 @@ fn add_groups(alloc: Global, to: &mut Vec<u8>, covered: &Covered) -> Result<(), 
     add_further_group(to, covered, "results", &result_bins(alloc)?)?;
     add_further_group(to, covered, "open at once", &open_bins(alloc)?)?;
     add_further_group(to, covered, "overlaps", &overlap_bins(alloc)?)?;
-    add_further_group(to, covered, "requesters", &requester_bins(alloc)?)
+    add_further_group(to, covered, "requesters", &requester_bins(alloc)?)?;
+    add_further_group(to, covered, "sequences", &sequence_bins(alloc)?)?;
+    add_further_group(to, covered, "line sequences", &line_sequence_bins(alloc)?)
 }
 
 /// How many bins have counted an operation.
@@ -113,7 +116,7 @@ fn add_covered(to: &mut Vec<u8>, covered: &Covered) -> Result<(), AllocError>
         &[
             Text("\"covered\":\""),
             Number(covered.covered() as u64),
-            Text("\",\"bins\":\"1338\",\"percent\":\""),
+            Text("\",\"bins\":\"1410\",\"percent\":\""),
             Number(covered.percent() as u64),
             Text("\""),
         ],
@@ -179,7 +182,7 @@ fn add_reasons(to: &mut Vec<u8>, refusals: &Refusals, reasons: &[Refusal]) -> Re
 /// name and the count of its bins, and how many requests were refused for each reason. Numbers are strings.
 ///
 /// ```
-/// add_json(alloc, &mut text, &covered, &refusals)?; // {"covered":"6","bins":"1338","percent":"0","groups":[..
+/// add_json(alloc, &mut text, &covered, &refusals)?; // {"covered":"6","bins":"1410","percent":"0","groups":[..
 /// ```
 #[tactic(auto, unfolding(crate::specs::Json::cover_json))]
 pub fn add_json(

@@ -21,6 +21,8 @@ mod page_style;
 mod refusal_rows;
 mod refusals;
 mod rows;
+mod sequence;
+mod sequence_group;
 mod table;
 mod traffic;
 mod traffic_group;

@@ -11,7 +11,7 @@ use chi_text::Part::{Number, Text};
 use chi_text::add_parts;
 use std::alloc::AllocError;
 
-/// The row of one bin among the others of a granule.
+/// The row of one bin of traffic or of sequences.
 #[tactic(auto, unfolding(crate::specs::Texts::traffic_row))]
 pub(crate) fn add_traffic_row(
     to: &mut Vec<u8>,

@@ -5,10 +5,12 @@ ghost use Rattle.std.specs.List.{range_with_len};
 ghost use Rattle.chi_trace.specs.Explains.{IsTrace};
 ghost use Rattle.chi_cover.specs.Added.{AreAdded};
 ghost use Rattle.chi_cover.specs.Counts.{bins_at};
+ghost use Rattle.chi_cover.specs.Last.{AreLastPlaces};
 ghost use Rattle.chi_cover.specs.Open.{AreKept};
 
 use crate::open::{OpenOperations, take};
 use crate::operation::add_own;
+use crate::sequence::{LastPlaces, add_sequences};
 use crate::traffic::add_traffic;
 use chi_trace::Operation;
 use std::alloc::{AllocError, Global};
@@ -20,17 +22,21 @@ fn add_operation(
     counts: &mut [u64],
     ops: &[Operation],
     kept: &mut OpenOperations,
+    last: &mut LastPlaces,
     place: usize,
 ) -> Result<(), AllocError>
     requires traced { IsTrace ops.now }
     requires place { place < length ops.now }
     requires kept { AreKept ops.now place kept.old }
+    requires last { AreLastPlaces ops.now place last.old }
     ensures added { OnOk result (AreAdded (bins_at ops.now place) counts.old counts.new) }
     ensures kept { OnOk result (AreKept ops.now (place + 1) kept.new) }
+    ensures last { OnOk result (AreLastPlaces ops.now (place + 1) last.new) }
 {
     let before = take(alloc, ops, kept, place)?;
     add_own(counts, &ops[place]);
-    add_traffic(alloc, counts, ops, &before, place)
+    add_traffic(alloc, counts, ops, &before, place)?;
+    add_sequences(counts, ops, last, place)
 }
 
 /// One more for each bin of each operation of a trace.
@@ -43,8 +49,9 @@ pub(crate) fn add_operations(
     ensures { OnOk result (AreAdded (flat_map (bins_at ops.now) (range_with_len 0 (length ops.now))) counts.old counts.new) }
 {
     let mut kept = HashMap::new(alloc);
+    let mut last = LastPlaces::none(alloc);
     for place in 0..ops.len() {
-        add_operation(alloc, counts, ops, &mut kept, place)?;
+        add_operation(alloc, counts, ops, &mut kept, &mut last, place)?;
     }
     Ok(())
 }

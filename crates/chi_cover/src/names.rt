@@ -2,7 +2,7 @@
 
 ghost use Rattle.std.specs.Prelude.{◌≡◌, ◌++◌, OnOk, codes};
 ghost use Rattle.chi_fields.specs.Opcode.{kind_name};
-ghost use Rattle.chi_cover.specs.Texts.{bin_name, bytes_text, depth_text, enabled_text, half_text, matched_text, order_text, overlap_text, requester_text, row_name};
+ghost use Rattle.chi_cover.specs.Texts.{bin_name, bytes_text, depth_text, enabled_text, half_text, matched_text, order_text, overlap_text, requester_text, row_name, sequence_text};
 
 use crate::bin::{Bin, Depth, Enabled, Transaction};
 use chi_fields::{Kind, Op};
@@ -157,6 +157,30 @@ fn add_overlap_name(
     )
 }
 
+fn add_sequence_name(
+    to: &mut Vec<u8>,
+    earlier: Transaction,
+    later: Transaction,
+) -> Result<(), AllocError>
+    ensures { OnOk result (to.new.items ≡ to.old.items ++ sequence_text earlier later) }
+{
+    add_parts(
+        to,
+        &[Text(later.name()), Text(" after "), Text(earlier.name())],
+    )
+}
+
+fn add_line_sequence_name(
+    to: &mut Vec<u8>,
+    earlier: Transaction,
+    later: Transaction,
+) -> Result<(), AllocError>
+    ensures { OnOk result (to.new.items ≡ to.old.items ++ bin_name (Bin.LineSequence earlier later)) }
+{
+    add_sequence_name(to, earlier, later)?;
+    add_parts(to, &[Text(" on the line")])
+}
+
 /// The name of a bin by itself.
 pub(crate) fn add_bin_name(to: &mut Vec<u8>, bin: Bin) -> Result<(), AllocError>
     ensures { OnOk result (to.new.items ≡ to.old.items ++ bin_name bin) }
@@ -186,6 +210,8 @@ pub(crate) fn add_bin_name(to: &mut Vec<u8>, bin: Bin) -> Result<(), AllocError>
                 Text(requester_name(same)),
             ],
         ),
+        Bin::Sequence { earlier, later } => add_sequence_name(to, earlier, later),
+        Bin::LineSequence { earlier, later } => add_line_sequence_name(to, earlier, later),
     }
 }
 

@@ -88,5 +88,11 @@ pub(crate) fn number(bin: Bin) -> usize
             1300 + 6 * transaction_number(earlier) + transaction_number(later)
         }
         Bin::Requester { same } => 1337 - usize::from(same),
+        Bin::Sequence { earlier, later } => {
+            1338 + 6 * transaction_number(earlier) + transaction_number(later)
+        }
+        Bin::LineSequence { earlier, later } => {
+            1374 + 6 * transaction_number(earlier) + transaction_number(later)
+        }
     }
 }

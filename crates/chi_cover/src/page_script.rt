@@ -13,8 +13,17 @@ const LEGEND = "A number says how many operations were of a bin. A bold 0 with a
 const TABLES = {
   operations: { heads: ["operation", "byte order", "operand"], over: "lane of the operand's first byte" },
   overlaps: { heads: ["later transaction"], over: "earlier transaction that was open" },
+  sequences: { heads: ["later transaction"], over: "earlier transaction of the granule" },
+  "line sequences": { heads: ["later transaction"], over: "earlier transaction of another granule of the line" },
 };
 const PLAIN = { heads: ["bin"], over: "" };
+
+// The names of bins of two transactions, of the later one and then of the earlier one.
+const PAIRS = {
+  overlaps: /^(.*) while (.*) was open$/,
+  sequences: /^(.*) after (.*)$/,
+  "line sequences": /^(.*) after (.*) on the line$/,
+};
 
 // A group of the data, in which a bin stands as an array. A count is a text, since no number holds the greatest exactly.
 function groupOf({ name, bins }) {
@@ -49,8 +58,8 @@ function placeOf(group, name) {
     const [, kind, order, bytes, lane] = name.match(/^(.*), (.*), ((?:1|2|4|8) bytes?), lane (\d+)$/);
     return { row: [kind, order, bytes], column: lane, width: parseInt(bytes, 10) };
   }
-  if (group === "overlaps") {
-    const [, later, earlier] = name.match(/^(.*) while (.*) was open$/);
+  if (PAIRS[group]) {
+    const [, later, earlier] = name.match(PAIRS[group]);
     return { row: [later], column: earlier, width: 1 };
   }
   return { row: [name], column: "operations", width: 1 };

@@ -11,6 +11,7 @@ use crate::covered::Covered;
 use crate::group::{KINDS, LENGTHS, comparison_bins, enables_bins, operation_bins, result_bins};
 use crate::lines::{add_missing, add_traffic_row};
 use crate::rows::{add_comparison_row, add_enables_row, add_kind_rows, add_op_rows};
+use crate::sequence_group::{line_sequence_bins, sequence_bins};
 use crate::traffic_group::{all_bins, open_bins, overlap_bins, requester_bins};
 use chi_fields::Op;
 use chi_text::Part::{Number, Text};
@@ -65,7 +66,7 @@ fn add_covered(to: &mut Vec<u8>, covered: &Covered) -> Result<(), AllocError>
         &[
             Text("covered: "),
             Number(count),
-            Text(" of 1338 ("),
+            Text(" of 1410 ("),
             Number(percent),
             Text("%)\n"),
         ],
@@ -141,7 +142,7 @@ fn add_of_operations(alloc: Global, to: &mut Vec<u8>, covered: &Covered) -> Resu
     add_all_results(to, covered)
 }
 
-/// The head of a group of traffic, and the row of each of its bins.
+/// The head of a group of traffic or of sequences, and the row of each of its bins.
 fn add_group(
     to: &mut Vec<u8>,
     covered: &Covered,
@@ -154,14 +155,16 @@ fn add_group(
     add_each_row(to, covered, bins)
 }
 
-/// The groups of bins of traffic.
+/// The groups of bins of traffic and of sequences.
 #[tactic(auto, unfolding(crate::specs::Texts::traffic_text))]
 fn add_of_traffic(alloc: Global, to: &mut Vec<u8>, covered: &Covered) -> Result<(), AllocError>
     ensures { OnOk result (to.new.items ≡ to.old.items ++ traffic_text (count_in covered.now)) }
 {
     add_group(to, covered, "open at once", &open_bins(alloc)?)?;
     add_group(to, covered, "overlaps", &overlap_bins(alloc)?)?;
-    add_group(to, covered, "requesters", &requester_bins(alloc)?)
+    add_group(to, covered, "requesters", &requester_bins(alloc)?)?;
+    add_group(to, covered, "sequences", &sequence_bins(alloc)?)?;
+    add_group(to, covered, "line sequences", &line_sequence_bins(alloc)?)
 }
 
 /// The bins that have counted no operation.

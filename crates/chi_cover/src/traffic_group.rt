@@ -5,6 +5,7 @@ ghost use Rattle.chi_cover.specs.Bins.{all_bins, later_bins, open_bins, overlap_
 
 use crate::bin::{Bin, Depth, Transaction};
 use crate::group::{comparison_bins, enables_bins, operation_bins, result_bins};
+use crate::sequence_group::{line_sequence_bins, sequence_bins};
 use std::alloc::{AllocError, Global};
 
 /// All transactions.
@@ -78,5 +79,7 @@ pub(crate) fn all_bins(alloc: Global) -> Result<Vec<Bin>, AllocError>
     bins.extend_from_slice(&open_bins(alloc)?)?;
     bins.extend_from_slice(&overlap_bins(alloc)?)?;
     bins.extend_from_slice(&requester_bins(alloc)?)?;
+    bins.extend_from_slice(&sequence_bins(alloc)?)?;
+    bins.extend_from_slice(&line_sequence_bins(alloc)?)?;
     Ok(bins)
 }

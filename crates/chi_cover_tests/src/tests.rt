@@ -7,5 +7,6 @@ mod operation_tests;
 mod operations;
 mod page_tests;
 mod reason_tests;
+mod sequence_tests;
 mod table_tests;
 mod traffic_tests;

@@ -7,11 +7,11 @@ use chi_fields::Refusal;
 use std::alloc::Global;
 use std::test::Fail;
 
-// Nine of 1,338 bins have counted an operation: the operations of both, the byte enables of the write, two results of the
+// Nine of 1,410 bins have counted an operation: the operations of both, the byte enables of the write, two results of the
 // AtomicLoad, one and two operations that were open, and of the write that it overlaps an AtomicLoad, of another requester. Three
 // requests were refused, two of them for one reason. All of it is on one line.
-const WANTED: [&str; 9] = [
-    r#"{"covered":"9","bins":"1338","percent":"0",
+const WANTED: [&str; 11] = [
+    r#"{"covered":"9","bins":"1410","percent":"0",
 "groups":[{"name":"operations","bins":[["ReadNoSnp, little-endian, 1 byte, lane 0","0"],
 ["ReadNoSnp, little-endian, 1 byte, lane 1","0"],
 "#,
@@ -76,7 +76,17 @@ const WANTED: [&str; 9] = [
     r#"
 ["AtomicCompare while AtomicCompare was open","0"]]},
 {"name":"requesters","bins":[["an overlap with an earlier operation of the same requester","0"],
-["an overlap with an earlier operation of another requester","1"]]}],
+["an overlap with an earlier operation of another requester","1"]]},
+{"name":"sequences","bins":[["ReadNoSnp after ReadNoSnp","0"],
+["WriteNoSnpPtl after ReadNoSnp","0"],
+"#,
+    r#"
+["AtomicCompare after AtomicCompare","0"]]},
+{"name":"line sequences","bins":[["ReadNoSnp after ReadNoSnp on the line","0"],
+["WriteNoSnpPtl after ReadNoSnp on the line","0"],
+"#,
+    r#"
+["AtomicCompare after AtomicCompare on the line","0"]]}],
 "refused":[["UnknownOpcode","0"],
 ["ReservedSize","0"],
 ["SizeOutOfProfile","0"],
@@ -115,7 +125,7 @@ fn the_json_of_a_small_trace(rt: HostRuntime) -> Result<(), Fail> {
         let wanted = on_one_line(alloc, wanted)?;
         assert_same(&rt, json.contains(wanted.as_str()), true);
     }
-    assert_same(&rt, json.matches("\",\"0\"]").count(), 1329 + 4);
+    assert_same(&rt, json.matches("\",\"0\"]").count(), 1401 + 4);
     assert_same(&rt, json.matches("\",\"1\"]").count(), 9 + 1);
     Ok(())
 }
@@ -126,11 +136,11 @@ fn one_object_on_a_line(rt: HostRuntime) -> Result<(), Fail> {
     let json = json(alloc, &Covered::new(alloc)?, &Refusals::none())?;
     assert_same(
         &rt,
-        json.starts_with("{\"covered\":\"0\",\"bins\":\"1338\",\"percent\":\"0\",\"groups\":[{"),
+        json.starts_with("{\"covered\":\"0\",\"bins\":\"1410\",\"percent\":\"0\",\"groups\":[{"),
         true,
     );
     assert_same(&rt, json.ends_with("[\"BadByteEnable\",\"0\"]]}\n"), true);
     assert_same(&rt, json.matches("\n").count(), 1);
-    assert_same(&rt, json.matches("\",\"0\"]").count(), 1338 + 6);
+    assert_same(&rt, json.matches("\",\"0\"]").count(), 1410 + 6);
     Ok(())
 }

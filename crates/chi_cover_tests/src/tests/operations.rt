@@ -56,6 +56,16 @@ pub(crate) fn observed(
     })
 }
 
+/// A read of an operand of which the reply was not seen.
+pub(crate) fn read(addr: u64, size: u8) -> Result<Operation, Fail> {
+    observed(0x04, size, addr, false, 0, [0; 16], None)
+}
+
+/// A write of one.
+pub(crate) fn write(addr: u64, size: u8) -> Result<Operation, Fail> {
+    observed(0x1c, size, addr, false, 0, [0; 16], None)
+}
+
 /// The operation of a requester from one time to another.
 pub(crate) fn of_requester(op: Operation, src: u16, start: u64, end: u64) -> Operation {
     Operation {

@@ -40,7 +40,7 @@ fn a_page_needs_no_other_file(rt: HostRuntime) -> Result<(), Fail> {
     assert_same(&rt, page.matches("</script>").count(), 2);
     assert_same(
         &rt,
-        page.contains("{\"covered\":\"0\",\"bins\":\"1338\","),
+        page.contains("{\"covered\":\"0\",\"bins\":\"1410\","),
         true,
     );
     assert_same(&rt, page.contains("http"), false);

@@ -8,7 +8,7 @@ use std::process::Abort;
 use std::test::Fail;
 
 // The lines of a table that are wanted at these places, counted from 0; after the last line there is nothing.
-const WANTED: [(usize, &str); 30] = [
+const WANTED: [(usize, &str); 34] = [
     (0, "operations: 2 of 1200"),
     (1, "ReadNoSnp little 1: 0 0 0 0 0 0 0 0 0 0 0 0 0 0 0 0"),
     (8, "ReadNoSnp big 8: 0 0"),
@@ -41,13 +41,17 @@ const WANTED: [(usize, &str); 30] = [
     (247, "requesters: 1 of 2"),
     (248, "of the same requester: 0"),
     (249, "of another requester: 1"),
-    (250, "covered: 9 of 1338 (0%)"),
-    (251, "missing: ReadNoSnp, little-endian, 1 byte, lane 0"),
+    (250, "sequences: 0 of 36"),
+    (252, "WriteNoSnpPtl after ReadNoSnp: 0"),
+    (287, "line sequences: 0 of 36"),
+    (289, "WriteNoSnpPtl after ReadNoSnp on the line: 0"),
+    (324, "covered: 9 of 1410 (0%)"),
+    (325, "missing: ReadNoSnp, little-endian, 1 byte, lane 0"),
     (
-        1579,
+        1653,
         "missing: an overlap with an earlier operation of the same requester",
     ),
-    (1580, ""),
+    (1726, ""),
 ];
 
 fn table(alloc: Global, covered: &Covered) -> Result<Vec<u8>, Fail> {
@@ -80,26 +84,31 @@ fn the_table_of_a_small_trace(rt: HostRuntime) -> Result<(), Fail> {
 }
 
 // Bins that count nothing, by their place among those that count nothing in an empty table.
-const MISSING: [(usize, &str); 8] = [
-    (250, "covered: 0 of 1338 (0%)"),
+const MISSING: [(usize, &str); 10] = [
+    (324, "covered: 0 of 1410 (0%)"),
     (
-        251 + 719,
+        325 + 719,
         "missing: AtomicLoad.CLR, big-endian, 8 bytes, lane 8",
     ),
     (
-        251 + 1200,
+        325 + 1200,
         "missing: AtomicCompare, 1 byte, compare value in the lower half, matched",
     ),
     (
-        251 + 1219,
+        325 + 1219,
         "missing: WriteNoSnpPtl, 2 bytes, byte enables: some",
     ),
-    (251 + 1227, "missing: AtomicLoad.ADD, 1 byte, kept"),
-    (251 + 1294, "missing: AtomicLoad.ADD, 8 bytes, wrapped"),
-    (251 + 1299, "missing: open more than 8"),
+    (325 + 1227, "missing: AtomicLoad.ADD, 1 byte, kept"),
+    (325 + 1294, "missing: AtomicLoad.ADD, 8 bytes, wrapped"),
+    (325 + 1299, "missing: open more than 8"),
     (
-        251 + 1301,
+        325 + 1301,
         "missing: WriteNoSnpPtl while ReadNoSnp was open",
+    ),
+    (325 + 1338, "missing: ReadNoSnp after ReadNoSnp"),
+    (
+        325 + 1375,
+        "missing: WriteNoSnpPtl after ReadNoSnp on the line",
     ),
 ];
 
@@ -108,7 +117,7 @@ fn the_bins_that_an_empty_table_misses(rt: HostRuntime) -> Result<(), Fail> {
     let alloc = rt.alloc();
     let covered = Covered::new(alloc)?;
     assert_same(&rt, covered.covered(), 0);
-    assert_same(&rt, Covered::bins(), 1338);
+    assert_same(&rt, Covered::bins(), 1410);
     assert_same(&rt, covered.percent(), 0);
     let text = table(alloc, &covered)?;
     assert_lines(&rt, text.as_slice(), &MISSING);

@@ -1,19 +1,11 @@
 //! The bins of operations among the others of their granules, worked by hand.
 
 use crate::tests::comparison::assert_same;
-use crate::tests::operations::{covered_by, observed, of_requester};
+use crate::tests::operations::{covered_by, of_requester, read, write};
 use chi_cover::{Bin, Depth, Transaction};
 use chi_trace::Operation;
 use std::process::Abort;
 use std::test::Fail;
-
-fn read(addr: u64, size: u8) -> Result<Operation, Fail> {
-    observed(0x04, size, addr, false, 0, [0; 16], None)
-}
-
-fn write(addr: u64, size: u8) -> Result<Operation, Fail> {
-    observed(0x1c, size, addr, false, 0, [0; 16], None)
-}
 
 // Compares the counts of the five depths.
 fn assert_depths<R: AllocGlobal + Abort>(

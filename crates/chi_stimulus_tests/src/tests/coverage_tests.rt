@@ -10,8 +10,8 @@ use chi_trace::{GranuleWords, Operation, Trace};
 use std::alloc::Global;
 use std::test::Fail;
 
-/// How many bins are of operations, and that of one operation alone.
-const OF_OPERATIONS: usize = 1200 + 16 + 11 + 68 + 1;
+/// How many bins are of operations, that of one operation alone, and those of sequences on a granule and on a line.
+const OF_OPERATIONS: usize = 1200 + 16 + 11 + 68 + 1 + 36 + 36;
 
 /// What is wrong with requests: they are all little-endian, no compare value stands in an upper half, or no data are sent.
 #[derive(Clone, Copy)]

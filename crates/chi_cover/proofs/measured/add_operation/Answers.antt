@@ -1,4 +1,4 @@
--- the bins of an operation by itself, and then those of traffic
+-- the bins of an operation by itself, those of traffic, and then those of sequences
 use Rattle.chi_cover.proofs.Lists.{on_ok}
 use Rattle.chi_cover.proofs.Sums.{added_then}
 use Rattle.chi_cover.proofs.Traced.{read_at, within_at}
@@ -13,4 +13,4 @@ pub returns-clause-added : goal.returns-clause-added
 returns-clause-added c =
     let ops = c.args.ops.now in
     let own = rw (read_at ops c.args.place c.index-ops-place.result c.requires.place c.index-ops-place.is) at c.add_own.ensures in
-    on_ok c.add_traffic.result c.add_traffic.ensures (λ among. added_then own among)
+    on_ok c.add_sequences.result c.add_sequences.ensures.added (λ after. added_then own (added_then c.in_ok-add_traffic.ensures after))

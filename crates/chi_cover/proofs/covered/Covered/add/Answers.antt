@@ -11,7 +11,7 @@ unfolding count_in count_of
 returns-clause-ok c bin there =
     let old = c.args.self.now in
     let first : c.deref_mut.result.now ≡ old = c.deref_mut.ensures.value ∙ (c.in_ok-counts.ensures.items ∙ (c.deref.ensures.value ∙ c.self.view_is)) in
-    let long : length old ≡ 1338 = ap length (sym c.self.view_is) ∙ c.self.invariant in
+    let long : length old ≡ 1410 = ap length (sym c.self.view_is) ∙ c.self.invariant in
     let added = rw first at c.in_ok-add_operations.ensures in
     let size : length c.add_operations.new.counts ≡ c.in_ok-counts.counts.len =
     added.long ∙ (ap length (sym (c.deref.ensures.value ∙ c.self.view_is)) ∙ sym c.in_ok-counts.ensures.len) in

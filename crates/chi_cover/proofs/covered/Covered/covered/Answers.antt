@@ -6,5 +6,5 @@ use Rattle.chi_cover.proofs.covered.Covered.covered.Goals as goal
 pub returns-clause-value : goal.returns-clause-value
 returns-clause-value c =
     let is = c.deref.ensures.value ∙ c.self.view_is in
-    let long : length c.args.self.now ≡ 1338 = ap length (sym c.self.view_is) ∙ c.self.invariant in
+    let long : length c.args.self.now ≡ 1410 = ap length (sym c.self.view_is) ∙ c.self.invariant in
     c.above_zero.ensures ∙ (ap (count_by (nat_lt 0)) is ∙ covered_whole c.args.self.now long)

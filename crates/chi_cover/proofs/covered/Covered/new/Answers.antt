@@ -6,4 +6,4 @@ use Rattle.chi_cover.proofs.covered.Covered.new.Goals as goal
 
 pub returns : goal.returns
 unfolding count_in
-returns c bin = rw (c.in_ok-vec.ensures.items_if_clones_equal (λ y same. same)) (zeros 1338 (number_of bin))
+returns c bin = rw (c.in_ok-vec.ensures.items_if_clones_equal (λ y same. same)) (zeros 1410 (number_of bin))
