@@ -3,7 +3,7 @@
 
 // The count that stands for itself and all that are greater.
 const MOST = "18446744073709551615";
-const LEGEND = "A number says how many operations were of a bin. A bold 0 with a thick border is missing: no operation was of that bin.";
+const LEGEND = "A number says how many operations were of a bin.";
 
 // What stands above the rows and the columns of a group's table.
 const TABLES = {
@@ -21,27 +21,35 @@ const PAIRS = {
   "line sequences": /^(.*) after (.*) on the line$/,
 };
 
-// A group of the data, in which a bin stands as an array. A count is a text, since no number holds the greatest exactly.
-function groupOf({ name, bins }) {
-  return { name, bins: bins.map(([bin, count]) => ({ name: bin, count })) };
+// A group of the data, in which a bin stands as an array, at the goal of the data. A count and the goal are texts, since no number
+// holds the greatest exactly.
+function groupOf({ name, bins }, goal) {
+  return { name, bins: bins.map(([bin, count]) => ({ name: bin, count, missing: BigInt(count) < BigInt(goal) })) };
 }
 
 function isMissing(bin) {
-  return bin.count === "0";
+  return bin.missing;
 }
 
 function missingOf(bins) {
   return bins.filter(isMissing);
 }
 
-// A group's name, and how many of its bins have counted an operation.
+// A group's name, and how many of its bins are covered.
 function headingOf({ name, bins }) {
   return `${name}: ${bins.length - missingOf(bins).length} of ${bins.length}`;
 }
 
 // What is said of all bins.
-function summaryOf({ covered, bins, percent }, missing) {
-  return `${covered} of ${bins} bins are covered (${percent}%), ${missing} ${missing === 1 ? "is" : "are"} missing.`;
+function summaryOf({ covered, bins, percent, goal }, missing) {
+  const least = goal === "1" ? "" : `, each at least ${goal}`;
+  return `${covered} of ${bins} bins are covered (${percent}%)${least}, ${missing} ${missing === 1 ? "is" : "are"} missing.`;
+}
+
+// What is said of the numbers.
+function legendOf({ goal }) {
+  if (goal === "1") return `${LEGEND} A bold 0 with a thick border is missing: no operation was of that bin.`;
+  return `${LEGEND} A bold number with a thick border is missing: fewer than ${goal} operations were of that bin.`;
 }
 
 function textOf(count) {
@@ -177,14 +185,14 @@ function makeChoice(content) {
 // Builds the page from the data.
 function start() {
   const data = JSON.parse(document.getElementById("coverage").textContent);
-  const groups = data.groups.map(groupOf);
+  const groups = data.groups.map((group) => groupOf(group, data.goal));
   const count = missingOf(groups.flatMap((group) => group.bins)).length;
   const sections = groups.map((group, number) => makeSection(`group-${number}`, headingOf(group), makeTable(tableOf(group))));
   sections.push(makeSection("missing", `missing: ${count}`, ...makeMissing(groups)));
   const content = element("main");
   content.append(...sections);
-  document.body.append(element("h1", "", "chicheck cover"), element("p", "summary", summaryOf(data, count)), makeLinks(sections), element("p", "legend", LEGEND), makeChoice(content), content);
+  document.body.append(element("h1", "", "chicheck cover"), element("p", "summary", summaryOf(data, count)), makeLinks(sections), element("p", "legend", legendOf(data)), makeChoice(content), content);
 }
 
-if (typeof module !== "undefined") module.exports = { groupOf, headingOf, isMissing, isWhole, missingOf, placeOf, summaryOf, tableOf, textOf };
+if (typeof module !== "undefined") module.exports = { groupOf, headingOf, isMissing, isWhole, legendOf, missingOf, placeOf, summaryOf, tableOf, textOf };
 else start();

@@ -57,6 +57,17 @@ def try_choice(pages):
     same(len(browser.value(SHOWN)), 280, "all rows again")
 
 
+def try_goal(pages):
+    """At a goal of five operations the bins that counted fewer are missing, whether they counted some or none."""
+    browser = pages.browser
+    pages.open(cover_sample.page(cover_sample.below_a_goal()), "a coverage at a goal of five operations")
+    same(pages.text(".summary"), "1408 of 1410 bins are covered (99%), each at least 5, 2 are missing.", "summary")
+    same(pages.text(".legend"), "A number says how many operations were of a bin. A bold number with a thick border is missing: fewer than 5 operations were of that bin.", "legend")
+    same(browser.value("[...document.querySelectorAll('td.missing')].map((cell) => [cell.title, cell.textContent])"),
+         [["open 2: missing", "4"], ["AtomicCompare while ReadNoSnp was open: missing", "0"]], "cells that are missing")
+    same(browser.value("[...document.querySelectorAll('#missing li')].map((it) => it.textContent)"), ["open 2", "AtomicCompare while ReadNoSnp was open"], "missing bins")
+
+
 def try_colours(pages):
     """The page follows what the browser is set to."""
     browser, found = pages.browser, []
@@ -73,6 +84,7 @@ def try_cover(pages):
     try_small(pages)
     try_lanes(pages)
     try_choice(pages)
+    try_goal(pages)
     try_colours(pages)
     whole = cover_sample.coverage(lambda name: 1)
     pages.open(cover_sample.page(whole), "a coverage of all bins")

@@ -34,12 +34,12 @@ def names():
     }
 
 
-def coverage(count_of, refused=()):
-    """What is covered where each bin, by its name, has this count, and requests were refused for these reasons."""
+def coverage(count_of, refused=(), goal=1):
+    """What is covered at a goal where each bin, by its name, has this count, and requests were refused for these reasons."""
     groups = [{"name": group, "bins": [[name, str(count_of(name))] for name in bins]} for group, bins in names().items()]
-    covered = sum(1 for group in groups for bin in group["bins"] if bin[1] != "0")
-    return {"covered": str(covered), "bins": "1410", "percent": str(covered * 100 // 1410), "groups": groups,
-            "refused": [[reason, str(refused.count(reason))] for reason in REASONS]}
+    covered = sum(1 for group in groups for bin in group["bins"] if int(bin[1]) >= goal)
+    return {"covered": str(covered), "bins": "1410", "percent": str(covered * 100 // 1410), "goal": str(goal),
+            "groups": groups, "refused": [[reason, str(refused.count(reason))] for reason in REASONS]}
 
 
 def small():
@@ -55,6 +55,12 @@ def nearly_whole():
     """A coverage in which two bins are missing, and one has the greatest count."""
     counts = {"AtomicSwap, big-endian, 8 bytes, lane 8": 0, "AtomicCompare while ReadNoSnp was open": 0, "open 1": 2**64 - 1}
     return coverage(lambda name: counts.get(name, 12345))
+
+
+def below_a_goal():
+    """A coverage at a goal of five operations: one bin has counted four, one none, and all others five."""
+    counts = {"open 2": 4, "AtomicCompare while ReadNoSnp was open": 0}
+    return coverage(lambda name: counts.get(name, 5), goal=5)
 
 
 def page(data):

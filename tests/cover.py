@@ -68,6 +68,10 @@ def counts():
     told("table: no refusals", lines[-13:] == refusals_of([]))
     for percent, status in [("0", 0), ("1", 1), ("100", 1), (str(2**64 - 1), 1)]:
         wants(f"table: {percent} of a hundred", ["cover", "--require", percent], whole, status, table.decode())
+    for percent, goal, status in [("1", "0", 0), ("100", "0", 0), ("0", "3", 0), ("1", "3", 1)]:
+        _, table, _ = run(CHECKER, ["cover", "--goal", goal], whole)
+        words = ["cover", "--goal", goal, "--require", percent]
+        wants(f"table: {percent} of a hundred at a goal of {goal}", words, whole, status, table.decode())
     requests = [refused_request("OutOfRegion"), *adds(2), *map(refused_request, REASONS)]
     status, table, errors = run(CHECKER, ["cover"], trace(requests, 2))
     lines = table.decode().splitlines()
@@ -79,12 +83,29 @@ def counts():
         wants(f"{words}: no trace", words.split(), "[]", 3, errors="chicheck: trace is not an object\n")
 
 
+def goals():
+    """At a goal a bin is covered if it counted so many operations or more."""
+    whole = example("two_adds")
+    wanted = ["operations: 1 of 1200", "AtomicLoad.ADD little 8: 0 2", "open at once: 1 of 5", "open 2: 1", "overlaps: 0 of 36"]
+    wanted += ["covered: 2 of 1410 (0%), each at least 2", "missing: ReadNoSnp, little-endian, 8 bytes, lane 8: 1 of 2", "missing: open 2: 1 of 2"]
+    table = counted("a goal of 2", ["--goal", "2"], whole, wanted).decode().splitlines()
+    told("a goal of 2: those that are missing", sum(it.startswith("missing: ") for it in table[:-13]) == 1410 - 2)
+    told("a goal of 2: those with a count", sum(it.endswith(": 1 of 2") for it in table) == sum(it == 1 for it in COVERED_BINS.values()))
+    told("a goal of 1", run(CHECKER, ["cover", "--goal", "1"], whole) == run(CHECKER, ["cover"], whole))
+    table = counted("a goal of 0", ["--goal", "0"], whole, ["covered: 1410 of 1410 (100%), each at least 0"]).decode().splitlines()
+    told("a goal of 0: none is missing", not any(it.startswith("missing: ") for it in table[:-13]))
+    most = str(2**64 - 1)
+    counted("the greatest goal", ["--goal", most], whole, [f"covered: 0 of 1410 (0%), each at least {most}", f"missing: open 1: 2 of {most}"])
+    found = json.loads(run(CHECKER, ["cover", "--goal", "2", "--format", "json"], whole)[1])
+    told(f"a goal of 2 as JSON: {found}", [found[it] for it in ("covered", "percent", "goal")] == ["2", "0", "2"])
+
+
 def counts_as_json():
     """What is counted as JSON says what its text does. Of two traces it is worked by hand, all of it."""
     two, lost = "examples/traces/two_adds.json", "examples/traces/lost_update.json"
     refusing = trace([refused_request("OutOfRegion"), *adds(2), *map(refused_request, REASONS)], 2)
     for words, text in [
-        *((words, example(name)) for name in sorted(TRACES) for words in ["", "--require 0", "--require 100"]),
+        *((words, example(name)) for name in sorted(TRACES) for words in ["", "--require 0", "--require 100", "--goal 2", "--goal 0 --require 100"]),
         (f"{two} {lost} {two}", b""),
         ("--events examples/events/two_adds.jsonl", b""),
         ("--flits examples/flits/stale_read.jsonl", b""),
@@ -176,8 +197,9 @@ def inputs(folder):
 
 build("chihome", "chicheck")
 counts()
+goals()
 counts_as_json()
 met_as_defined()
 with tempfile.TemporaryDirectory() as folder:
     inputs(folder)
-end(380)
+end(400)

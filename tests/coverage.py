@@ -18,29 +18,31 @@ def place_of(name):
     return " ".join(filter(None, parts.groups()[:3])), "".join(f"{it} " for it in parts.groups()[3:] if it)
 
 
-def head_of(name, counts):
-    return f"{name}: {sum(count != '0' for _, count in counts)} of {len(counts)}"
+def head_of(name, counts, goal):
+    return f"{name}: {sum(int(count) >= goal for _, count in counts)} of {len(counts)}"
 
 
-def rows_of(group):
+def rows_of(group, goal):
     """The lines of a group."""
     rows, between = {}, " " if group["name"] == "operations" else ", "
     for name, count in group["bins"]:
         begin, before = place_of(name)
         rows.setdefault(begin, []).append(f"{before}{count}")
-    return [head_of(group["name"], group["bins"]), *(f"{begin}: {between.join(counts)}" for begin, counts in rows.items())]
+    return [head_of(group["name"], group["bins"], goal), *(f"{begin}: {between.join(counts)}" for begin, counts in rows.items())]
 
 
-def missing_of(counts):
-    return [f"missing: {name}" for name, count in counts if count == "0"]
+def missing_of(counts, goal):
+    """The lines of what was counted fewer times than the goal; they say how often where that is not 0."""
+    return [f"missing: {name}" + ("" if count == "0" else f": {count} of {goal}") for name, count in counts if int(count) < goal]
 
 
 def text_of(it):
     """The text that says what this JSON does."""
-    groups, refused = it["groups"], it["refused"]
-    lines = [line for group in groups for line in rows_of(group)]
-    lines += [f"covered: {it['covered']} of {it['bins']} ({it['percent']}%)", *(line for group in groups for line in missing_of(group["bins"]))]
-    lines += [head_of("refusals", refused), *(f"{name}: {count}" for name, count in refused), *missing_of(refused)]
+    groups, refused, goal = it["groups"], it["refused"], int(it["goal"])
+    least = "" if goal == 1 else f", each at least {goal}"
+    lines = [line for group in groups for line in rows_of(group, goal)]
+    lines += [f"covered: {it['covered']} of {it['bins']} ({it['percent']}%){least}", *(line for group in groups for line in missing_of(group["bins"], goal))]
+    lines += [head_of("refusals", refused, 1), *(f"{name}: {count}" for name, count in refused), *missing_of(refused, 1)]
     return "".join(f"{line}\n" for line in lines)
 
 

@@ -167,7 +167,7 @@ module _ (IsCut : Option ℕ → Type 0) (holds : List ℕ → List ℕ → Type
   flushed (Watch options file) (Some input) old mid new status (watched, is, status_is, appends) keeps =
       (watched, is, status_is, appends_kept old mid new (watched_text (watching options) watched) appends keeps)
   flushed (Cover options) (Some input) old mid new status (counts, has, status_is, appends) keeps =
-      (counts, has, status_is, appends_kept old mid new (written_of options.format counts) appends keeps)
+      (counts, has, status_is, appends_kept old mid new (written_of options counts) appends keeps)
 
   flush_failed : (task : Task) (remaining old mid new : Option (List ℕ)) (status : ℕ) (fault : WriteFault) → IfSome remaining (λ input. TaskOutcome IsCut holds task input old mid (Ok status))
       → Keeps mid new → IfSome remaining (λ input. TaskOutcome IsCut holds task input old new (Err (check_fault.Write fault)))
@@ -177,7 +177,7 @@ module _ (IsCut : Option ℕ → Type 0) (holds : List ℕ → List ℕ → Type
   flush_failed (Watch options file) (Some input) old mid new status fault (watched, is, status_is, appends) keeps =
       inl (watched, is, whole_front old new (watched_text (watching options) watched) (appends_kept old mid new (watched_text (watching options) watched) appends keeps))
   flush_failed (Cover options) (Some input) old mid new status fault (counts, has, status_is, appends) keeps =
-      (counts, has, whole_front old new (written_of options.format counts) (appends_kept old mid new (written_of options.format counts) appends keeps))
+      (counts, has, whole_front old new (written_of options counts) (appends_kept old mid new (written_of options counts) appends keeps))
 
   -- a task whose text was flushed, or could not be, came to an outcome of this status
   pub ended : (task : Task) (remaining old mid new : Option (List ℕ)) (done status : ℕ) → IfSome remaining (λ input. TaskOutcome IsCut holds task input old mid (Ok done)) → Keeps mid new

@@ -58,7 +58,11 @@ watch_app =
     with_rule (with_rule (with_rule (with_rule (with_rule (with_rule (with_rule (with_rule (with_rule (with_rule (with_rule (with_rule (with_rule (new_app (codes "watch")) (switch_rule (codes "flits"))) (switch_rule (codes "points"))) errors_rule) budget_rule) format_rule) save_rule) html_rule)
     (switch_rule (codes "keep-going"))) (switch_rule (codes "require-end"))) operations_rule) (switch_rule (codes "require-quiet"))) (switch_rule (codes "require-judged"))) file_rule
 
--- how many of a hundred bins have to have counted an operation is a whole number below 2^64, and 0 by default
+-- how many operations a bin has to count to be covered is a whole number below 2^64, and 1 by default
+abbrev pub goal_rule : Rule
+goal_rule = number_rule_or (codes "goal") (codes "1")
+
+-- so is how many of a hundred bins have to be covered, and 0 by default
 abbrev pub require_rule : Rule
 require_rule = number_rule_or (codes "require") (codes "0")
 
@@ -66,11 +70,11 @@ require_rule = number_rule_or (codes "require") (codes "0")
 abbrev pub files_rule : Rule
 files_rule = record (new_rule (codes "file")) { value_names = 1; action = Some Append }
 
--- The task `cover`: it has that number. Its inputs may tell events, or flits with points or without and what errors say of them. A form
+-- The task `cover`: it has these numbers. Its inputs may tell events, or flits with points or without and what errors say of them. A form
 -- of the answer may be asked for. It has the file of a page, and files that are counted.
 abbrev pub cover_app : App
 cover_app =
-    with_rule (with_rule (with_rule (with_rule (with_rule (with_rule (with_rule (with_rule (new_app (codes "cover")) require_rule) (switch_rule (codes "events"))) (switch_rule (codes "flits"))) (switch_rule (codes "points"))) errors_rule) format_rule) html_rule) files_rule
+    with_rule (with_rule (with_rule (with_rule (with_rule (with_rule (with_rule (with_rule (with_rule (new_app (codes "cover")) goal_rule) require_rule) (switch_rule (codes "events"))) (switch_rule (codes "flits"))) (switch_rule (codes "points"))) errors_rule) format_rule) html_rule) files_rule
 
 -- the program, with its tasks `explain`, `watch` and `cover`
 abbrev pub program_app : App

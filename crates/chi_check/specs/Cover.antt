@@ -82,20 +82,23 @@ pub record AreCounted (lines : Option LineFormat) (inputs : List (List ℕ)) (co
   pub are : AreCounts told counted.covered
   pub refused : AreRefusalCounts told counted.refusals
 
--- the text of counts: the table of what was covered, and how many requests were refused
-abbrev pub cover_text : Counted → List ℕ
-cover_text counted = table_text (count_in counted.covered) ++ refusals_text (refused_in counted.refusals)
+-- the text of counts: the table of what was covered, each bin by so many operations, and how many requests were refused
+abbrev pub cover_text : ℕ → Counted → List ℕ
+cover_text goal counted = table_text goal (count_in counted.covered) ++ refusals_text (refused_in counted.refusals)
 
 -- the JSON of counts
-abbrev pub json_of : Counted → List ℕ
-json_of counted = cover_json (count_in counted.covered) (refused_in counted.refusals)
+abbrev pub json_of : ℕ → Counted → List ℕ
+json_of goal counted = cover_json goal (count_in counted.covered) (refused_in counted.refusals)
 
 -- what is written of counts, in the form that is asked for
-abbrev pub written_of : AnswerFormat → Counted → List ℕ
-written_of Text counted = cover_text counted
-written_of Json counted = json_of counted
+abbrev pub written_in : AnswerFormat → ℕ → Counted → List ℕ
+written_in Text goal counted = cover_text goal counted
+written_in Json goal counted = json_of goal counted
 
--- 1 where fewer of a hundred bins have counted an operation than have to, and else 0
+abbrev pub written_of : CoverOptions → Counted → List ℕ
+written_of options counted = written_in options.format options.goal counted
+
+-- 1 where fewer of a hundred bins are covered than have to be, and else 0
 pub record IsCoverStatus (require percent status : ℕ) : Type 0 where
   pub below : percent < require → status ≡ 1
   pub reached : require ≤ percent → status ≡ 0
@@ -159,21 +162,21 @@ abbrev pub AreInputsFault : (List ℕ → List ℕ → Type 0) → Option LineFo
 AreInputsFault holds lines [] input fault = IsInputFault lines input fault
 AreInputsFault holds lines (path ∷ paths) input fault = AreFilesFault holds lines (path ∷ paths) fault
 
--- After Ok the counts were written in the form that is asked for, and the status is 1 where fewer of a hundred bins have counted an
--- operation than have to. What each fault means, and what was written then: nothing but where the writer failed.
+-- After Ok the counts were written in the form that is asked for, and the status is 1 where fewer of a hundred bins are covered than
+-- have to be. What each fault means, and what was written then: nothing but where the writer failed.
 abbrev pub CoverOutcome : (List ℕ → List ℕ → Type 0) → CoverOptions → List ℕ → Option (List ℕ) → Option (List ℕ) → Result ℕ CheckFault → Type 0
 CoverOutcome holds options input old new (Ok status) =
-    (counted : Counted) × HasCounts holds options input counted × IsCoverStatus options.require (percent_of (count_in counted.covered)) status × Appends old new (written_of options.format counted)
+    (counted : Counted) × HasCounts holds options input counted × IsCoverStatus options.require (percent_of options.goal (count_in counted.covered)) status × Appends old new (written_of options counted)
 CoverOutcome holds options input old new (Err Page) = (counted : Counted) × HasCounts holds options input counted × IsTrue (is_some options.html)
-CoverOutcome holds options input old new (Err (Write fault)) = (counted : Counted) × HasCounts holds options input counted × AppendsFront old new (written_of options.format counted)
+CoverOutcome holds options input old new (Err (Write fault)) = (counted : Counted) × HasCounts holds options input counted × AppendsFront old new (written_of options counted)
 CoverOutcome holds options input old new (Err fault) = AreInputsFault holds options.lines (paths_of options) input fault
 
 -- the page of counts
-abbrev pub IsCoverPage : Counted → List ℕ → Type 0
-IsCoverPage counted page = (front : List ℕ) × (back : List ℕ) × (page ≡ page_text front (json_of counted) back)
+abbrev pub IsCoverPage : ℕ → Counted → List ℕ → Type 0
+IsCoverPage goal counted page = (front : List ℕ) × (back : List ℕ) × (page ≡ page_text front (json_of goal counted) back)
 
 -- where one was asked for, the page of the counts that were written was put at the path
 abbrev pub IsCoverPut : {P : Type 0} → (List ℕ → List ℕ → Type 0) → (P → List ℕ → List ℕ → Type 0) → CoverOptions → List ℕ → Option (List ℕ) → Option (List ℕ) → P → Type 0
 IsCoverPut holds has_put options input old new pages =
-    IfSome options.html (λ path. (counted : Counted) × (page : List ℕ) × HasCounts holds options input counted × IsCoverPage counted page
-    × Appends old new (written_of options.format counted) × has_put pages path.now page)
+    IfSome options.html (λ path. (counted : Counted) × (page : List ℕ) × HasCounts holds options input counted × IsCoverPage options.goal counted page
+    × Appends old new (written_of options counted) × has_put pages path.now page)

@@ -20,50 +20,64 @@ use std::io::{Read, Write};
 
 // The status of what is covered.
 fn cover_status(covered: &Covered, options: &CoverOptions<'_>) -> u8
-    ensures below { percent_of (count_in covered.now) < options.now.require → result ≡ 1 }
-    ensures reached { options.now.require ≤ percent_of (count_in covered.now) → result ≡ 0 }
+    ensures below { percent_of options.now.goal (count_in covered.now) < options.now.require → result ≡ 1 }
+    ensures reached { options.now.require ≤ percent_of options.now.goal (count_in covered.now) → result ≡ 0 }
     ensures status { IsAnswerStatus result }
 {
-    let percent = covered.percent() as u64;
+    let percent = covered.percent(options.goal) as u64;
     if percent < options.require { 1 } else { 0 }
 }
 
 // The table of what is covered, and how many requests were refused.
-fn counted_text(alloc: Global, counted: &Counted) -> Result<Vec<u8>, AllocError>
-    ensures { IfOk result (λ text. text.items ≡ cover_text counted.now) }
+fn counted_text(alloc: Global, counted: &Counted, goal: u64) -> Result<Vec<u8>, AllocError>
+    ensures { IfOk result (λ text. text.items ≡ cover_text goal counted.now) }
 {
     let mut text = Vec::new(alloc);
-    add_table(alloc, &mut text, &counted.covered)?;
+    add_table(alloc, &mut text, &counted.covered, goal)?;
     add_refusals(&mut text, &counted.refusals)?;
     Ok(text)
 }
 
 // The same as JSON.
-fn counted_json(alloc: Global, counted: &Counted) -> Result<Vec<u8>, AllocError>
-    ensures { IfOk result (λ text. text.items ≡ json_of counted.now) }
+fn counted_json(alloc: Global, counted: &Counted, goal: u64) -> Result<Vec<u8>, AllocError>
+    ensures { IfOk result (λ text. text.items ≡ json_of goal counted.now) }
 {
     let mut text = Vec::new(alloc);
-    add_json(alloc, &mut text, &counted.covered, &counted.refusals)?;
+    add_json(alloc, &mut text, &counted.covered, &counted.refusals, goal)?;
     Ok(text)
 }
 
 // What is written of what was counted, in the form that is asked for.
-fn counted_as(alloc: Global, counted: &Counted, format: AnswerFormat) -> Result<Vec<u8>, AllocError>
-    ensures { IfOk result (λ text. text.items ≡ written_of format counted.now) }
+fn counted_as(
+    alloc: Global,
+    counted: &Counted,
+    options: &CoverOptions<'_>,
+) -> Result<Vec<u8>, AllocError>
+    ensures { IfOk result (λ text. text.items ≡ written_of options.now counted.now) }
 {
-    match format {
-        AnswerFormat::Text => counted_text(alloc, counted),
-        AnswerFormat::Json => counted_json(alloc, counted),
+    match options.format {
+        AnswerFormat::Text => counted_text(alloc, counted, options.goal),
+        AnswerFormat::Json => counted_json(alloc, counted, options.goal),
     }
 }
 
 // The page of what was counted, where one is asked for, and nothing where none is.
-fn page_asked(alloc: Global, counted: &Counted, html: Option<&str>) -> Result<Vec<u8>, AllocError>
-    ensures { IfOk result (λ page. IfSome html.entry (λ _. IsCoverPage counted.now page.items)) }
+fn page_asked(
+    alloc: Global,
+    counted: &Counted,
+    options: &CoverOptions<'_>,
+) -> Result<Vec<u8>, AllocError>
+    ensures { IfOk result (λ page. IfSome options.now.html (λ _. IsCoverPage options.now.goal counted.now page.items)) }
 {
     let mut page = Vec::new(alloc);
-    if html.is_some() {
-        add_page(alloc, &mut page, &counted.covered, &counted.refusals)?;
+    if options.html.is_some() {
+        add_page(
+            alloc,
+            &mut page,
+            &counted.covered,
+            &counted.refusals,
+            options.goal,
+        )?;
     }
     Ok(page)
 }
@@ -81,17 +95,17 @@ fn report_of(
     counted: &Counted,
     options: &CoverOptions<'_>,
 ) -> Result<CoverReport, AllocError>
-    ensures text { IfOk result (λ report. report.text.items ≡ written_of options.now.format counted.now) }
-    ensures page { IfOk result (λ report. IfSome options.now.html (λ _. IsCoverPage counted.now report.page.items)) }
+    ensures text { IfOk result (λ report. report.text.items ≡ written_of options.now counted.now) }
+    ensures page { IfOk result (λ report. IfSome options.now.html (λ _. IsCoverPage options.now.goal counted.now report.page.items)) }
 {
-    let text = counted_as(alloc, counted, options.format)?;
-    let page = page_asked(alloc, counted, options.html)?;
+    let text = counted_as(alloc, counted, options)?;
+    let page = page_asked(alloc, counted, options)?;
     Ok(CoverReport { text, page })
 }
 
 /// Reads traces or events, counts what their operations covered and how many requests were refused, and writes the table and then
 /// the refusals, or both as JSON: of the files that the options name, added up, or of the standard input where they name none. The
-/// answer is a status: 1 where fewer of a hundred bins have counted an operation than the options want, and else 0.
+/// answer is a status: 1 where fewer of a hundred bins are covered than the options want, and else 0.
 ///
 /// Nothing is written unless all inputs were read and counted. Where a page is asked for, it is made whole and put before the counts
 /// are written. After a fault of the writer a prefix of them has been written. Whether the operations can be explained is not

@@ -23,7 +23,10 @@ pub(crate) const AROUND: u64 = 16;
 // How many operations have to have ended where no number is given.
 const OPERATIONS: u64 = 0;
 
-// How many of a hundred bins have to have counted an operation where no number is given.
+// How many operations a bin has to count to be covered where no number is given.
+const GOAL: u64 = 1;
+
+// How many of a hundred bins have to be covered where no number is given.
 const REQUIRE: u64 = 0;
 
 // The file that is to be a page, where one was given.
@@ -223,6 +226,7 @@ pub(crate) fn cover_options<'a>(
     ensures { IfOk result (HasCoverOptions (rows_of (found_of matches.now))) }
 {
     Ok(CoverOptions {
+        goal: number_or(matches, "goal", GOAL),
         require: number_or(matches, "require", REQUIRE),
         lines: lines_asked(matches),
         format: answer_format(matches),

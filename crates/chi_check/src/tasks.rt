@@ -141,11 +141,16 @@ const WATCH: [NamedOption<'static>; 13] = [
 ];
 
 // The options of `cover`, and the files that are counted.
-const COVER: [NamedOption<'static>; 8] = [
+const COVER: [NamedOption<'static>; 9] = [
+    NamedOption {
+        name: "goal",
+        takes: Takes::NumberOr("N", "1"),
+        help: "Operations that a bin has to count to be covered",
+    },
     NamedOption {
         name: "require",
         takes: Takes::NumberOr("PERCENT", "0"),
-        help: "Status 1 where fewer of a hundred bins have counted an operation",
+        help: "Status 1 where fewer of a hundred bins are covered",
     },
     NamedOption {
         name: "events",

@@ -1,5 +1,5 @@
 -- how many operations of a trace each bin counts
-use Rattle.std.specs.Prelude.{◌≡◌, ℕ, ◌+◌, ◌-◌, ◌*◌, ◌/◌, ◌^◌, ◌==◌, nat_lt, List, ◌++◌, Contains, count_by, flat_map, length, min, slice_index}
+use Rattle.std.specs.Prelude.{◌≡◌, ℕ, ◌+◌, ◌-◌, ◌*◌, ◌/◌, ◌^◌, ◌==◌, nat_le, List, ◌++◌, Contains, count_by, flat_map, length, min, slice_index}
 use Rattle.std.specs.List.{range_with_len}
 use Rattle.chi_trace.specs.declared.operation.Operation.{Operation}
 use Rattle.chi_trace.specs.Explains.{at}
@@ -34,10 +34,10 @@ count_in counts bin = slice_index counts (number_of bin)
 abbrev pub IsAdded : List Operation → List ℕ → List ℕ → Type 0
 IsAdded trace old new = (bin : Bin) → Contains all_bins bin → count_in new bin ≡ min (count_in old bin + count_of trace bin) most
 
--- how many of these bins have counted an operation
-abbrev pub covered_of : (Bin → ℕ) → List Bin → ℕ
-covered_of counts bins = count_by (λ bin. nat_lt 0 (counts bin)) bins
+-- how many of these bins have counted so many operations
+abbrev pub covered_of : ℕ → (Bin → ℕ) → List Bin → ℕ
+covered_of goal counts bins = count_by (λ bin. nat_le goal (counts bin)) bins
 
 -- how many of a hundred that is, rounded down
-abbrev pub percent_of : (Bin → ℕ) → ℕ
-percent_of counts = covered_of counts all_bins * 100 / 1410
+abbrev pub percent_of : ℕ → (Bin → ℕ) → ℕ
+percent_of goal counts = covered_of goal counts all_bins * 100 / 1410

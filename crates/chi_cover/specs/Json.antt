@@ -38,10 +38,11 @@ group_json counts group = codes "{\"name\":\"" ++ (group.0 ++ (codes "\",\"bins\
 unfoldable pub groups_json : (Bin → ℕ) → List ℕ
 groups_json counts = join_by (group_json counts) (codes ",") all_groups
 
--- how many bins have counted an operation, and how many of a hundred that is
-unfoldable pub covered_json : (Bin → ℕ) → List ℕ
-covered_json counts =
-    codes "\"covered\":\"" ++ (decimal (covered_of counts all_bins) ++ (codes "\",\"bins\":\"1410\",\"percent\":\"" ++ (decimal (percent_of counts) ++ codes "\"")))
+-- how many bins have counted as many operations as the goal, how many of a hundred that is, and the goal
+unfoldable pub covered_json : ℕ → (Bin → ℕ) → List ℕ
+covered_json goal counts =
+    codes "\"covered\":\"" ++ (decimal (covered_of goal counts all_bins) ++ (codes "\",\"bins\":\"1410\",\"percent\":\"" ++ (decimal (percent_of goal counts)
+    ++ (codes "\",\"goal\":\"" ++ (decimal goal ++ codes "\"")))))
 
 -- a reason: its name, and how many requests were refused for it
 unfoldable pub reason_json : (Refusal → ℕ) → Refusal → List ℕ
@@ -52,7 +53,7 @@ unfoldable pub reasons_json : (Refusal → ℕ) → List Refusal → List ℕ
 reasons_json refused reasons = join_by (reason_json refused) (codes ",") reasons
 
 -- what was covered, and how many requests were refused for each reason
-unfoldable pub cover_json : (Bin → ℕ) → (Refusal → ℕ) → List ℕ
-cover_json counts refused =
-    codes "{" ++ (covered_json counts ++ (codes ",\"groups\":[" ++ (groups_json counts
+unfoldable pub cover_json : ℕ → (Bin → ℕ) → (Refusal → ℕ) → List ℕ
+cover_json goal counts refused =
+    codes "{" ++ (covered_json goal counts ++ (codes ",\"groups\":[" ++ (groups_json counts
     ++ (codes "],\"refused\":[" ++ (reasons_json refused all_refusals ++ codes "]}\n")))))

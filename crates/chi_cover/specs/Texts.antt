@@ -1,5 +1,5 @@
 -- the table of a coverage, as a text
-use Rattle.std.specs.Prelude.{ℕ, ◌==◌, Bool, true, false, if◌then◌else◌, List, [], ◌++◌, codes, decimal, flat_map, length, Some}
+use Rattle.std.specs.Prelude.{ℕ, ◌==◌, Bool, true, false, if◌then◌else◌, nat_le, List, [], ◌++◌, codes, decimal, flat_map, length, Some}
 use Rattle.chi_fields.specs.Opcode.{all_ops, kind_name}
 use Rattle.chi_fields.specs.declared.kind.Kind.{Kind}
 use Rattle.chi_fields.specs.declared.kind.Kind.TheVariants.{Load}
@@ -59,9 +59,9 @@ sequence_text earlier later = transaction_text later ++ (codes " after " ++ tran
 abbrev pub requester_text : Bool → List ℕ
 requester_text same = if same then codes "of the same requester" else codes "of another requester"
 
--- the head of a group: its name, and how many of its bins have counted an operation
-unfoldable pub head_text : (Bin → ℕ) → List ℕ → List Bin → List ℕ
-head_text counts name bins = name ++ (codes ": " ++ (decimal (covered_of counts bins) ++ (codes " of " ++ (decimal (length bins) ++ codes "\n"))))
+-- the head of a group: its name, and how many of its bins have counted as many operations as the goal
+unfoldable pub head_text : ℕ → (Bin → ℕ) → List ℕ → List Bin → List ℕ
+head_text goal counts name bins = name ++ (codes ": " ++ (decimal (covered_of goal counts bins) ++ (codes " of " ++ (decimal (length bins) ++ codes "\n"))))
 
 -- the counts of a kind, a byte order and a length, by the lane
 abbrev pub lane_text : (Bin → ℕ) → Kind → Bool → ℕ → ℕ → List ℕ
@@ -133,32 +133,43 @@ row_name bin = bin_name bin
 unfoldable pub traffic_row : (Bin → ℕ) → Bin → List ℕ
 traffic_row counts bin = row_name bin ++ (codes ": " ++ (decimal (counts bin) ++ codes "\n"))
 
--- a bin that has counted no operation
-unfoldable pub missing_line : (Bin → ℕ) → Bin → List ℕ
-missing_line counts bin = if counts bin == 0 then codes "missing: " ++ (bin_name bin ++ codes "\n") else []
+-- how many operations a missing bin has counted, where it has some, of how many it has to
+abbrev pub left_text : ℕ → ℕ → List ℕ
+left_text goal count = if count == 0 then [] else codes ": " ++ (decimal count ++ (codes " of " ++ decimal goal))
 
--- how many bins have counted an operation
-unfoldable pub covered_line : (Bin → ℕ) → List ℕ
-covered_line counts =
-    codes "covered: " ++ (decimal (covered_of counts all_bins) ++ (codes " of 1410 (" ++ (decimal (percent_of counts) ++ codes "%)\n")))
+-- a bin that has counted fewer operations than the goal
+unfoldable pub missing_line : ℕ → (Bin → ℕ) → Bin → List ℕ
+missing_line goal counts bin =
+    if nat_le goal (counts bin) then [] else codes "missing: " ++ (bin_name bin ++ (left_text goal (counts bin) ++ codes "\n"))
+
+-- the goal, where it is another than one operation
+abbrev pub goal_text : ℕ → List ℕ
+goal_text goal = if goal == 1 then [] else codes ", each at least " ++ decimal goal
+
+-- how many bins have counted as many operations as the goal
+unfoldable pub covered_line : ℕ → (Bin → ℕ) → List ℕ
+covered_line goal counts =
+    codes "covered: " ++ (decimal (covered_of goal counts all_bins) ++ (codes " of 1410 (" ++ (decimal (percent_of goal counts) ++ (codes "%)"
+    ++ (goal_text goal ++ codes "\n")))))
 
 -- the groups of bins of operations, and those of traffic and of sequences
-unfoldable pub operations_text : (Bin → ℕ) → List ℕ
-operations_text counts =
-    head_text counts (codes "operations") operation_bins ++ (flat_map (kind_rows counts) all_kinds
-    ++ (head_text counts (codes "compares") comparison_bins ++ (flat_map (comparison_row counts) lengths
-    ++ (head_text counts (codes "writes") enables_bins ++ (flat_map (enables_row counts) lengths
-    ++ (head_text counts (codes "results") result_bins ++ flat_map (op_rows counts) all_ops))))))
+unfoldable pub operations_text : ℕ → (Bin → ℕ) → List ℕ
+operations_text goal counts =
+    head_text goal counts (codes "operations") operation_bins ++ (flat_map (kind_rows counts) all_kinds
+    ++ (head_text goal counts (codes "compares") comparison_bins ++ (flat_map (comparison_row counts) lengths
+    ++ (head_text goal counts (codes "writes") enables_bins ++ (flat_map (enables_row counts) lengths
+    ++ (head_text goal counts (codes "results") result_bins ++ flat_map (op_rows counts) all_ops))))))
 
-abbrev pub group_text : (Bin → ℕ) → List ℕ → List Bin → List ℕ
-group_text counts name bins = head_text counts name bins ++ flat_map (traffic_row counts) bins
+abbrev pub group_text : ℕ → (Bin → ℕ) → List ℕ → List Bin → List ℕ
+group_text goal counts name bins = head_text goal counts name bins ++ flat_map (traffic_row counts) bins
 
-unfoldable pub traffic_text : (Bin → ℕ) → List ℕ
-traffic_text counts =
-    group_text counts (codes "open at once") open_bins ++ (group_text counts (codes "overlaps") overlap_bins
-    ++ (group_text counts (codes "requesters") requester_bins ++ (group_text counts (codes "sequences") sequence_bins
-    ++ group_text counts (codes "line sequences") line_sequence_bins)))
+unfoldable pub traffic_text : ℕ → (Bin → ℕ) → List ℕ
+traffic_text goal counts =
+    group_text goal counts (codes "open at once") open_bins ++ (group_text goal counts (codes "overlaps") overlap_bins
+    ++ (group_text goal counts (codes "requesters") requester_bins ++ (group_text goal counts (codes "sequences") sequence_bins
+    ++ group_text goal counts (codes "line sequences") line_sequence_bins)))
 
--- the table: the groups, how many bins have counted an operation, and those that have not
-unfoldable pub table_text : (Bin → ℕ) → List ℕ
-table_text counts = operations_text counts ++ (traffic_text counts ++ (covered_line counts ++ flat_map (missing_line counts) all_bins))
+-- the table: the groups, how many bins have counted as many operations as the goal, and those that have not
+unfoldable pub table_text : ℕ → (Bin → ℕ) → List ℕ
+table_text goal counts =
+    operations_text goal counts ++ (traffic_text goal counts ++ (covered_line goal counts ++ flat_map (missing_line goal counts) all_bins))

@@ -1,6 +1,6 @@
 //! A table of coverage: how many operations each bin has counted.
 
-ghost use Rattle.std.specs.Prelude.{◌≡◌, ◌≤◌, IfOk, OnErr, OnOk, count_by, length, nat_lt};
+ghost use Rattle.std.specs.Prelude.{◌≡◌, ◌≤◌, IfOk, OnErr, OnOk, count_by, length, nat_le};
 ghost use Rattle.chi_trace.specs.Explains.{IsTrace};
 ghost use Rattle.chi_cover.specs.Bins.{all_bins};
 ghost use Rattle.chi_cover.specs.Counts.{IsAdded, count_in, covered_of, percent_of};
@@ -15,11 +15,11 @@ use std::marker::Model;
 /// How many bins there are.
 const BINS: usize = 1410;
 
-/// How many of these counts are above 0.
-fn above_zero(counts: &[u64]) -> usize
-    ensures { result ≡ count_by (nat_lt 0) counts.now }
+/// How many of these counts reach a goal.
+fn reached(counts: &[u64], goal: u64) -> usize
+    ensures { result ≡ count_by (nat_le goal) counts.now }
 {
-    counts.iter().filter(|count| **count > 0).count()
+    counts.iter().filter(|count| **count >= goal).count()
 }
 
 /// How many operations each bin has counted, of the traces that were added. 2^64 - 1 stands for that many and more.
@@ -84,22 +84,22 @@ impl Covered {
         }
     }
 
-    /// How many bins have counted an operation.
+    /// How many bins are covered: `goal` is how many operations a bin has to count to be covered, and with 0 each is.
     ///
     /// ```
-    /// let is_whole = covered.covered() == Covered::bins();
+    /// let is_whole = covered.covered(1) == Covered::bins();
     /// ```
-    pub fn covered(&self) -> usize
-        ensures value { result ≡ covered_of (count_in self.now) all_bins }
+    pub fn covered(&self, goal: u64) -> usize
+        ensures value { result ≡ covered_of goal (count_in self.now) all_bins }
         ensures most { result ≤ 1410 }
     {
-        above_zero(&self.counts)
+        reached(&self.counts, goal)
     }
 
     /// How many bins there are.
     ///
     /// ```
-    /// let missing = Covered::bins() - covered.covered();
+    /// let missing = Covered::bins() - covered.covered(1);
     /// ```
     pub fn bins() -> usize
         ensures { result ≡ length all_bins }
@@ -107,14 +107,15 @@ impl Covered {
         BINS
     }
 
-    /// How many of a hundred bins have counted an operation, rounded down.
+    /// How many of a hundred bins are covered, rounded down: `goal` is how many operations a bin has to count to be covered, and
+    /// with 0 each is.
     ///
     /// ```
-    /// let is_enough = covered.percent() >= 90;
+    /// let is_enough = covered.percent(5) >= 90;
     /// ```
-    pub fn percent(&self) -> usize
-        ensures { result ≡ percent_of (count_in self.now) }
+    pub fn percent(&self, goal: u64) -> usize
+        ensures { result ≡ percent_of goal (count_in self.now) }
     {
-        self.covered() * 100 / BINS
+        self.covered(goal) * 100 / BINS
     }
 }

@@ -106,18 +106,20 @@ fn add_groups(alloc: Global, to: &mut Vec<u8>, covered: &Covered) -> Result<(), 
     add_further_group(to, covered, "line sequences", &line_sequence_bins(alloc)?)
 }
 
-/// How many bins have counted an operation.
+/// How many bins have counted as many operations as the goal, and the goal.
 #[tactic(auto, unfolding(crate::specs::Json::covered_json))]
-fn add_covered(to: &mut Vec<u8>, covered: &Covered) -> Result<(), AllocError>
-    ensures { OnOk result (to.new.items ≡ to.old.items ++ covered_json (count_in covered.now)) }
+fn add_covered(to: &mut Vec<u8>, covered: &Covered, goal: u64) -> Result<(), AllocError>
+    ensures { OnOk result (to.new.items ≡ to.old.items ++ covered_json goal (count_in covered.now)) }
 {
     add_parts(
         to,
         &[
             Text("\"covered\":\""),
-            Number(covered.covered() as u64),
+            Number(covered.covered(goal) as u64),
             Text("\",\"bins\":\"1410\",\"percent\":\""),
-            Number(covered.percent() as u64),
+            Number(covered.percent(goal) as u64),
+            Text("\",\"goal\":\""),
+            Number(goal),
             Text("\""),
         ],
     )
@@ -178,11 +180,12 @@ fn add_reasons(to: &mut Vec<u8>, refusals: &Refusals, reasons: &[Refusal]) -> Re
     add_further_reasons(to, refusals, rest)
 }
 
-/// Adds a coverage to a text as a JSON object on a line of its own: how many bins have counted an operation, each group with the
-/// name and the count of its bins, and how many requests were refused for each reason. Numbers are strings.
+/// Adds a coverage to a text as a JSON object on a line of its own: how many bins are covered, each group with the name and the
+/// count of its bins, and how many requests were refused for each reason. Numbers are strings. `goal` is how many operations a bin
+/// has to count to be covered; with 0 each is.
 ///
 /// ```
-/// add_json(alloc, &mut text, &covered, &refusals)?; // {"covered":"6","bins":"1410","percent":"0","groups":[..
+/// add_json(alloc, &mut text, &covered, &refusals, 1)?; // {"covered":"6","bins":"1410","percent":"0","goal":"1","groups":[..
 /// ```
 #[tactic(auto, unfolding(crate::specs::Json::cover_json))]
 pub fn add_json(
@@ -190,11 +193,12 @@ pub fn add_json(
     to: &mut Vec<u8>,
     covered: &Covered,
     refusals: &Refusals,
+    goal: u64,
 ) -> Result<(), AllocError>
-    ensures { OnOk result (to.new.items ≡ to.old.items ++ cover_json (count_in covered.now) (refused_in refusals.now)) }
+    ensures { OnOk result (to.new.items ≡ to.old.items ++ cover_json goal (count_in covered.now) (refused_in refusals.now)) }
 {
     add_parts(to, &[Text("{")])?;
-    add_covered(to, covered)?;
+    add_covered(to, covered, goal)?;
     add_parts(to, &[Text(",\"groups\":[")])?;
     add_groups(alloc, to, covered)?;
     add_parts(to, &[Text("],\"refused\":[")])?;

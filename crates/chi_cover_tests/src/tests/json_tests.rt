@@ -1,7 +1,7 @@
 //! The JSON of a coverage around some bins, worked by hand.
 
 use crate::tests::comparison::assert_same;
-use crate::tests::operations::{covered_by, small_trace};
+use crate::tests::operations::{covered_by, covered_twice, small_trace};
 use chi_cover::{Covered, Refusals, add_json};
 use chi_fields::Refusal;
 use std::alloc::Global;
@@ -11,7 +11,7 @@ use std::test::Fail;
 // AtomicLoad, one and two operations that were open, and of the write that it overlaps an AtomicLoad, of another requester. Three
 // requests were refused, two of them for one reason. All of it is on one line.
 const WANTED: [&str; 11] = [
-    r#"{"covered":"9","bins":"1410","percent":"0",
+    r#"{"covered":"9","bins":"1410","percent":"0","goal":"1",
 "groups":[{"name":"operations","bins":[["ReadNoSnp, little-endian, 1 byte, lane 0","0"],
 ["ReadNoSnp, little-endian, 1 byte, lane 1","0"],
 "#,
@@ -104,9 +104,9 @@ fn on_one_line(alloc: Global, lines: &str) -> Result<String, Fail> {
     Ok(whole)
 }
 
-fn json(alloc: Global, covered: &Covered, refusals: &Refusals) -> Result<String, Fail> {
+fn json(alloc: Global, covered: &Covered, refusals: &Refusals, goal: u64) -> Result<String, Fail> {
     let mut text = Vec::new(alloc);
-    add_json(alloc, &mut text, covered, refusals)?;
+    add_json(alloc, &mut text, covered, refusals, goal)?;
     Ok(String::from_utf8(text)?)
 }
 
@@ -120,7 +120,7 @@ fn the_json_of_a_small_trace(rt: HostRuntime) -> Result<(), Fail> {
         Refusal::BadByteEnable,
         Refusal::Misaligned,
     ]);
-    let json = json(alloc, &covered, &refusals)?;
+    let json = json(alloc, &covered, &refusals, 1)?;
     for wanted in &WANTED {
         let wanted = on_one_line(alloc, wanted)?;
         assert_same(&rt, json.contains(wanted.as_str()), true);
@@ -133,14 +133,31 @@ fn the_json_of_a_small_trace(rt: HostRuntime) -> Result<(), Fail> {
 #[test]
 fn one_object_on_a_line(rt: HostRuntime) -> Result<(), Fail> {
     let alloc = rt.alloc();
-    let json = json(alloc, &Covered::new(alloc)?, &Refusals::none())?;
+    let json = json(alloc, &Covered::new(alloc)?, &Refusals::none(), 1)?;
     assert_same(
         &rt,
-        json.starts_with("{\"covered\":\"0\",\"bins\":\"1410\",\"percent\":\"0\",\"groups\":[{"),
+        json.starts_with(r#"{"covered":"0","bins":"1410","percent":"0","goal":"1","groups":[{"#),
         true,
     );
     assert_same(&rt, json.ends_with("[\"BadByteEnable\",\"0\"]]}\n"), true);
     assert_same(&rt, json.matches("\n").count(), 1);
     assert_same(&rt, json.matches("\",\"0\"]").count(), 1410 + 6);
+    Ok(())
+}
+
+// Four bins have counted two operations. The counts are the same at each goal.
+#[test]
+fn the_json_at_a_goal_of_two_operations(rt: HostRuntime) -> Result<(), Fail> {
+    let alloc = rt.alloc();
+    let covered = covered_twice(alloc)?;
+    let json = json(alloc, &covered, &Refusals::none(), 2)?;
+    for wanted in [
+        r#"{"covered":"4","bins":"1410","percent":"0","goal":"2","groups":[{"name":"operations","#,
+        r#"["WriteNoSnpPtl, big-endian, 4 bytes, lane 4","1"]"#,
+        r#"["AtomicLoad.ADD, little-endian, 2 bytes, lane 4","2"]"#,
+        r#"[["open 1","2"],["open 2","1"],["open 3 to 4","0"],"#,
+    ] {
+        assert_same(&rt, json.contains(wanted), true);
+    }
     Ok(())
 }

@@ -113,3 +113,13 @@ pub(crate) fn covered_by(alloc: Global, ops: &[Operation]) -> Result<Covered, Fa
     add(alloc, &mut covered, ops)?;
     Ok(covered)
 }
+
+/// What was covered by the small trace, and then by its AtomicLoad alone. Four bins have counted two operations: that of the
+/// AtomicLoad, two of its result, and one operation that was open. Five have counted one: that of the write and of its byte
+/// enables, two operations that were open, and of the write that it overlaps an AtomicLoad, of another requester.
+pub(crate) fn covered_twice(alloc: Global) -> Result<Covered, Fail> {
+    let ops = small_trace()?;
+    let mut covered = covered_by(alloc, &ops)?;
+    add(alloc, &mut covered, &[ops[0]])?;
+    Ok(covered)
+}

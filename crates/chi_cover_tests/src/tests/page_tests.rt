@@ -7,9 +7,9 @@ use chi_fields::Refusal;
 use std::alloc::Global;
 use std::test::Fail;
 
-fn page(alloc: Global, covered: &Covered, refusals: &Refusals) -> Result<String, Fail> {
+fn page(alloc: Global, covered: &Covered, refusals: &Refusals, goal: u64) -> Result<String, Fail> {
     let mut text = Vec::new(alloc);
-    add_page(alloc, &mut text, covered, refusals)?;
+    add_page(alloc, &mut text, covered, refusals, goal)?;
     Ok(String::from_utf8(text)?)
 }
 
@@ -23,10 +23,10 @@ fn the_data_of_a_page(rt: HostRuntime) -> Result<(), Fail> {
         alloc,
         b"<script type=\"application/json\" id=\"coverage\">\n",
     )?;
-    add_json(alloc, &mut data, &covered, &refusals)?;
+    add_json(alloc, &mut data, &covered, &refusals, 2)?;
     data.extend_from_slice(b"</script>\n<script>")?;
     let data = String::from_utf8(data)?;
-    let page = page(alloc, &covered, &refusals)?;
+    let page = page(alloc, &covered, &refusals, 2)?;
     assert_same(&rt, page.contains(data.as_str()), true);
     Ok(())
 }
@@ -34,7 +34,7 @@ fn the_data_of_a_page(rt: HostRuntime) -> Result<(), Fail> {
 #[test]
 fn a_page_needs_no_other_file(rt: HostRuntime) -> Result<(), Fail> {
     let alloc = rt.alloc();
-    let page = page(alloc, &Covered::new(alloc)?, &Refusals::none())?;
+    let page = page(alloc, &Covered::new(alloc)?, &Refusals::none(), 1)?;
     assert_same(&rt, page.starts_with("<!DOCTYPE html>\n"), true);
     assert_same(&rt, page.ends_with("</script>\n</body>\n</html>\n"), true);
     assert_same(&rt, page.matches("</script>").count(), 2);

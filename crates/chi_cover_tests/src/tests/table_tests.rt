@@ -1,7 +1,7 @@
 //! The text of a table.
 
 use crate::tests::comparison::assert_same;
-use crate::tests::operations::{covered_by, small_trace};
+use crate::tests::operations::{add, covered_by, covered_twice, read, small_trace};
 use chi_cover::{Covered, add_table};
 use std::alloc::Global;
 use std::process::Abort;
@@ -54,9 +54,9 @@ const WANTED: [(usize, &str); 34] = [
     (1726, ""),
 ];
 
-fn table(alloc: Global, covered: &Covered) -> Result<Vec<u8>, Fail> {
+fn table(alloc: Global, covered: &Covered, goal: u64) -> Result<Vec<u8>, Fail> {
     let mut text = Vec::new(alloc);
-    add_table(alloc, &mut text, covered)?;
+    add_table(alloc, &mut text, covered, goal)?;
     Ok(text)
 }
 
@@ -78,7 +78,7 @@ fn assert_lines<R: Abort>(rt: &R, text: &[u8], wanted: &[(usize, &str)]) {
 fn the_table_of_a_small_trace(rt: HostRuntime) -> Result<(), Fail> {
     let alloc = rt.alloc();
     let covered = covered_by(alloc, &small_trace()?)?;
-    let text = table(alloc, &covered)?;
+    let text = table(alloc, &covered, 1)?;
     assert_lines(&rt, text.as_slice(), &WANTED);
     Ok(())
 }
@@ -116,10 +116,105 @@ const MISSING: [(usize, &str); 10] = [
 fn the_bins_that_an_empty_table_misses(rt: HostRuntime) -> Result<(), Fail> {
     let alloc = rt.alloc();
     let covered = Covered::new(alloc)?;
-    assert_same(&rt, covered.covered(), 0);
+    assert_same(&rt, covered.covered(1), 0);
     assert_same(&rt, Covered::bins(), 1410);
-    assert_same(&rt, covered.percent(), 0);
-    let text = table(alloc, &covered)?;
+    assert_same(&rt, covered.percent(1), 0);
+    let text = table(alloc, &covered, 1)?;
     assert_lines(&rt, text.as_slice(), &MISSING);
+    Ok(())
+}
+
+// The lines at a goal of two operations, where four bins have counted two and five have counted one: bins that are covered have no
+// line `missing`, and those that have counted one say so.
+const AT_TWO: [(usize, &str); 23] = [
+    (0, "operations: 1 of 1200"),
+    (82, "AtomicLoad.ADD little 2: 0 0 2 0 0 0 0 0"),
+    (161, "compares: 0 of 16"),
+    (166, "writes: 0 of 11"),
+    (169, "WriteNoSnpPtl 4: none 0, some 1, all 0"),
+    (171, "results: 2 of 68"),
+    (173, "AtomicLoad.ADD 2: kept 0, changed sign 2, wrapped 2"),
+    (204, "open at once: 1 of 5"),
+    (205, "open 1: 2"),
+    (206, "open 2: 1"),
+    (210, "overlaps: 0 of 36"),
+    (247, "requesters: 0 of 2"),
+    (250, "sequences: 0 of 36"),
+    (287, "line sequences: 0 of 36"),
+    (324, "covered: 4 of 1410 (0%), each at least 2"),
+    (325, "missing: ReadNoSnp, little-endian, 1 byte, lane 0"),
+    (
+        325 + 115,
+        "missing: WriteNoSnpPtl, big-endian, 4 bytes, lane 4: 1 of 2",
+    ),
+    (
+        325 + 617,
+        "missing: AtomicLoad.ADD, little-endian, 2 bytes, lane 2",
+    ),
+    (
+        325 + 618,
+        "missing: AtomicLoad.ADD, little-endian, 2 bytes, lane 6",
+    ),
+    (
+        325 + 1221,
+        "missing: WriteNoSnpPtl, 4 bytes, byte enables: some: 1 of 2",
+    ),
+    (325 + 1292, "missing: open 2: 1 of 2"),
+    (
+        325 + 1333,
+        "missing: an overlap with an earlier operation of another requester: 1 of 2",
+    ),
+    (325 + 1406, ""),
+];
+
+#[test]
+fn the_table_at_a_goal_of_two_operations(rt: HostRuntime) -> Result<(), Fail> {
+    let alloc = rt.alloc();
+    let covered = covered_twice(alloc)?;
+    let text = table(alloc, &covered, 2)?;
+    assert_lines(&rt, text.as_slice(), &AT_TWO);
+    Ok(())
+}
+
+// Each bin has counted 0 operations and more.
+const AT_NOTHING: [(usize, &str); 5] = [
+    (0, "operations: 1200 of 1200"),
+    (161, "compares: 16 of 16"),
+    (205, "open 1: 0"),
+    (324, "covered: 1410 of 1410 (100%), each at least 0"),
+    (325, ""),
+];
+
+#[test]
+fn the_table_at_a_goal_of_no_operation(rt: HostRuntime) -> Result<(), Fail> {
+    let alloc = rt.alloc();
+    let text = table(alloc, &Covered::new(alloc)?, 0)?;
+    assert_lines(&rt, text.as_slice(), &AT_NOTHING);
+    Ok(())
+}
+
+// Reads of one byte, each by itself: two of each of 13 lanes and one of the next. So 15 bins have counted an operation, 14 of them
+// two, and one operation was open 27 times. The bins that are 1 percent of 1,410 are 14.1.
+#[test]
+fn bins_and_percent_at_a_goal(rt: HostRuntime) -> Result<(), Fail> {
+    let alloc = rt.alloc();
+    let mut covered = Covered::new(alloc)?;
+    for lane in 0..13 {
+        add(alloc, &mut covered, &[read(0x1000 + lane, 0)?])?;
+        add(alloc, &mut covered, &[read(0x1000 + lane, 0)?])?;
+    }
+    add(alloc, &mut covered, &[read(0x100d, 0)?])?;
+    for (goal, bins, percent) in [
+        (0, 1410, 100),
+        (1, 15, 1),
+        (2, 14, 0),
+        (3, 1, 0),
+        (27, 1, 0),
+        (28, 0, 0),
+        (u64::MAX, 0, 0),
+    ] {
+        assert_same(&rt, (goal, covered.covered(goal)), (goal, bins));
+        assert_same(&rt, (goal, covered.percent(goal)), (goal, percent));
+    }
     Ok(())
 }

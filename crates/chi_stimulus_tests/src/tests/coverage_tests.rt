@@ -84,7 +84,7 @@ fn scripts_by_chance_cover_all_operations(rt: HostRuntime) -> Result<(), Fail> {
     let alloc = rt.alloc();
     for seed in 1..5 {
         let covered = covered(alloc, &script_of(alloc, &stimulus(seed)?)?, Plant::Nothing)?;
-        assert_same(&rt, (seed, covered.covered()), (seed, OF_OPERATIONS));
+        assert_same(&rt, (seed, covered.covered(1)), (seed, OF_OPERATIONS));
     }
     Ok(())
 }
@@ -115,7 +115,7 @@ fn planted_faults_leave_bins_out(rt: HostRuntime) -> Result<(), Fail> {
     ] {
         let covered = covered(alloc, &script, plant)?;
         assert_same(&rt, covered.count(bin), 0);
-        assert_same(&rt, covered.covered() < OF_OPERATIONS, true);
+        assert_same(&rt, covered.covered(1) < OF_OPERATIONS, true);
     }
     Ok(())
 }

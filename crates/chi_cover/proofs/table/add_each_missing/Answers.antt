@@ -6,7 +6,7 @@ use Rattle.chi_cover.proofs.table.add_each_missing.Goals as goal
 
 pub loop-bin-preserved : goal.loop-bin-preserved
 loop-bin-preserved c =
-    part_more (missing_line (count_in c.args.covered.now)) c.args.to.now.items c.args.bins.now c.loop-bin.bin-index _ c.loop-bin.to.items c.add_missing.new.to.items c.loop-bin-test.true c.loop-bin.invariant c.in_ok-add_missing.ensures
+    part_more (missing_line c.args.goal (count_in c.args.covered.now)) c.args.to.now.items c.args.bins.now c.loop-bin.bin-index _ c.loop-bin.to.items c.add_missing.new.to.items c.loop-bin-test.true c.loop-bin.invariant c.in_ok-add_missing.ensures
 
 pub returns : goal.returns
-returns c = all_parts (missing_line (count_in c.args.covered.now)) c.args.to.now.items c.args.bins.now c.loop-bin.bin-index c.loop-bin.to.items c.loop-bin-test.false c.loop-bin.invariant
+returns c = all_parts (missing_line c.args.goal (count_in c.args.covered.now)) c.args.to.now.items c.args.bins.now c.loop-bin.bin-index c.loop-bin.to.items c.loop-bin-test.false c.loop-bin.invariant

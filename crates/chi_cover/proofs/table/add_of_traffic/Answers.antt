@@ -10,7 +10,7 @@ use Rattle.chi_cover.proofs.table.add_of_traffic.Goals as goal
 pub returns : goal.returns
 unfolding traffic_text
 returns c =
-    let counts = count_in c.args.covered.now in
+    let text = group_text c.args.goal (count_in c.args.covered.now) in
     let opened = rw (c.deref.ensures.value, c.in_ok-open_bins.ensures) at c.in_ok-add_group.ensures in
     let overlapped = rw (c.deref-2.ensures.value, c.in_ok-overlap_bins.ensures) at c.in_ok-add_group-2.ensures in
     let asked = rw (c.deref-3.ensures.value, c.in_ok-requester_bins.ensures) at c.in_ok-add_group-3.ensures in
@@ -18,7 +18,7 @@ returns c =
     let followed_on_line = rw (c.deref-5.ensures.value, c.in_ok-line_sequence_bins.ensures) at c.add_group-5.ensures in
     on_ok c.add_group-5.result followed_on_line
     (λ end.
-    joined c.args.to.now.items c.add_group.new.to.items _ (group_text counts (codes "open at once") open_bins) _ opened
-    (joined c.add_group.new.to.items c.add_group-2.new.to.items _ (group_text counts (codes "overlaps") overlap_bins) _ overlapped
-    (joined c.add_group-2.new.to.items c.add_group-3.new.to.items _ (group_text counts (codes "requesters") requester_bins) _ asked
-    (joined c.add_group-3.new.to.items c.add_group-4.new.to.items _ (group_text counts (codes "sequences") sequence_bins) _ followed end))))
+    joined c.args.to.now.items c.add_group.new.to.items _ (text (codes "open at once") open_bins) _ opened
+    (joined c.add_group.new.to.items c.add_group-2.new.to.items _ (text (codes "overlaps") overlap_bins) _ overlapped
+    (joined c.add_group-2.new.to.items c.add_group-3.new.to.items _ (text (codes "requesters") requester_bins) _ asked
+    (joined c.add_group-3.new.to.items c.add_group-4.new.to.items _ (text (codes "sequences") sequence_bins) _ followed end))))

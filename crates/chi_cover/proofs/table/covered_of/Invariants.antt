@@ -4,4 +4,4 @@ use Rattle.chi_cover.specs.Counts.{count_in, covered_of}
 use Rattle.chi_cover.proofs.table.covered_of.Given as goal
 
 abbrev pub invariant-loop-bin : goal.invariant-loop-bin
-invariant-loop-bin l = l.count ≡ covered_of (count_in l.covered) (take l.bin-index l.bins)
+invariant-loop-bin l = l.count ≡ covered_of l.goal (count_in l.covered) (take l.bin-index l.bins)
