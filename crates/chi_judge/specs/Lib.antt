@@ -4,5 +4,6 @@ pub mod Shown
 pub mod Legal
 pub mod Reaches
 pub mod Searches
+pub mod Settled
 pub mod Standings
 pub mod Until

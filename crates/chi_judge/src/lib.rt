@@ -11,6 +11,7 @@ mod legal;
 mod reach;
 mod reaching;
 mod search;
+mod settled;
 mod settling;
 mod shown;
 mod standing;
@@ -21,5 +22,6 @@ mod up_to_time;
 
 pub use judge::Judge;
 pub use reach::{Reach, Stop};
+pub use settled::Settled;
 pub use standing::Standing;
 pub use until::happened_until;

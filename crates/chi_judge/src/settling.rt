@@ -161,7 +161,7 @@ impl Judge {
 
     /// Looks at what had happened before the horizon, and where it tries to and can it keeps fewer. Answers whether it was seen that
     /// this can be explained, or cannot.
-    fn move_on<P: Progress>(
+    pub(crate) fn move_on<P: Progress>(
         &mut self,
         alloc: Global,
         horizon: u64,

@@ -1,12 +1,12 @@
 -- a search of one granule while its operations are told
-use Rattle.std.specs.Prelude.{◌≡◌, ℕ, ◌≤◌, List, ◌++◌, All, Some, None, length, map, ◌↔◌}
+use Rattle.std.specs.Prelude.{◌≡◌, ℕ, ◌≤◌, List, [], ◌∷◌, ◌++◌, All, Some, None, length, map, ◌↔◌}
 use Rattle.std.specs.List.{Contains}
 use Rattle.chi_trace.specs.declared.operation.Operation.{Operation}
 use Rattle.chi_trace.specs.Explains.{at, is_place}
 use Rattle.chi_trace.specs.Granules.{Finishes}
 use Rattle.chi_search.specs.Layers.{SomeLeads}
 use Rattle.chi_search.specs.Moves.{Ends}
-use Rattle.chi_search.specs.Positions.{IsReady, Position, is_left}
+use Rattle.chi_search.specs.Positions.{IsReady, Position, is_left, start}
 use Rattle.chi_search.specs.Searchable.{AreSorted, AreWithin}
 
 -- The positions to which the search came, and the operations that one of them at least has not passed. No operation that is
@@ -16,6 +16,10 @@ pub record FrontierValue : Type 0 where
   pub operations : List Operation
   pub horizon : ℕ
   pub latest : ℕ
+
+-- the search that is at one word, with no operation left
+abbrev pub only_at : ℕ → ℕ → ℕ → FrontierValue
+only_at word horizon latest = record { positions = start word ∷ []; operations = []; horizon = horizon; latest = latest }
 
 -- what is always true of it
 pub record IsFrontier (f : FrontierValue) : Type 0 where

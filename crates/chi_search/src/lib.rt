@@ -17,6 +17,7 @@ mod makers;
 mod making;
 mod narrow;
 mod narrowest;
+mod only_word;
 mod order;
 mod outcomes;
 mod part;
