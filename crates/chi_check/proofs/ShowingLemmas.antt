@@ -44,12 +44,12 @@ spent_after states looked old middle new budget first then n knows =
 
 -- a page that was not put: the granules that were found are written
 module _ (options : WatchOptions) (old new : Option (List ℕ)) (w : Watched) (told : Appends old new (flat_map (found_text options.answer) w.found.items)) where
-  unshown_in : (input : List ℕ) (fault : CheckFault) → IsWatched options.format input options.keep_going w → IsUnshown w fault → WatchOutcome options input old new (Err fault)
+  unshown_in : (input : List ℕ) (fault : CheckFault) → IsWatched options.format input options.keep_going options.around w → IsUnshown w fault → WatchOutcome options input old new (Err fault)
   unshown_in input fault is (inl same) = subst (λ (f : CheckFault). WatchOutcome options input old new (Err f)) (sym same) (w, is, told)
   unshown_in input fault is (inr same) =
       subst (λ (f : CheckFault). WatchOutcome options input old new (Err f)) (sym same) (before_it options old new input lines_fault.Memory w.found.items tt is.found told)
 
-  pub unshown : (remaining : Option (List ℕ)) (fault : CheckFault) → IfSome remaining (λ input. IsWatched options.format input options.keep_going w) → IsUnshown w fault
+  pub unshown : (remaining : Option (List ℕ)) (fault : CheckFault) → IfSome remaining (λ input. IsWatched options.format input options.keep_going options.around w) → IsUnshown w fault
       → IfSome remaining (λ input. WatchOutcome options input old new (Err fault))
   unshown remaining fault is why = IfSome_then remaining is (λ input it. unshown_in input fault it why)
 
@@ -74,9 +74,9 @@ module _ {P : Type 0} (has_put : P → List ℕ → List ℕ → Type 0) (option
       (λ g page is. (k.items, are, is)) put
 
   shown_in : (input : List ℕ) (old new : Option (List ℕ)) (status : ℕ) (w : Watched) (before between after : P) (saves : Bool) (html : Option (Bor (List ℕ)))
-      → (is : IsWatched options.format input options.keep_going w) → is_some w.kept ≡ (saves || is_some html) → status ≡ watch_status (watching options) w
+      → (is : IsWatched options.format input options.keep_going options.around w) → is_some w.kept ≡ (saves || is_some html) → status ≡ watch_status (watching options) w
       → Appends old new (watched_text (watching options) w) → PutsMore has_put (first_listed w) before between → IfSome html (λ path. IsFirstShown has_put options w path.now between after)
-      → IfSome html (λ path. (watched : Watched) × (it : IsWatched options.format input options.keep_going watched) × (status ≡ watch_status (watching options) watched)
+      → IfSome html (λ path. (watched : Watched) × (it : IsWatched options.format input options.keep_going options.around watched) × (status ≡ watch_status (watching options) watched)
       × Appends old new (watched_text (watching options) watched) × IsPutOf has_put (first_listed watched) (IsPageOfRead options input it.rest) path.now before after)
   shown_in input old new status w before between after saves None is keeps status_is appends more put = tt
   shown_in input old new status w before between after saves (Some path) is keeps status_is appends more put =
@@ -84,7 +84,7 @@ module _ {P : Type 0} (has_put : P → List ℕ → List ℕ → Type 0) (option
       (w, is, status_is, appends, more_then has_put (first_listed w) (IsPageOfRead options input is.rest) path.now before between after more first)
 
   pub shown : (how : WatchOptions) (remaining old mid new : Option (List ℕ)) (w : Watched) (before between after : P) (result : Result ℕ CheckFault) → how ≡ watching options
-      → IfSome remaining (λ input. IsWatched how.format input how.keep_going w) → is_some w.kept ≡ how.keep_lines → Appends old mid (flat_map (found_text how.answer) w.found.items)
+      → IfSome remaining (λ input. IsWatched how.format input how.keep_going how.around w) → is_some w.kept ≡ how.keep_lines → Appends old mid (flat_map (found_text how.answer) w.found.items)
       → WritesClosing how w mid new result → PutsMore has_put (first_listed w) before between → IfSome options.html (λ path. IsFirstShown has_put options w path.now between after)
       → IfOk result (λ status. IfSome remaining (λ input. ShowsFirst has_put options input old new status before after))
   shown how remaining old mid new w before between after result how_is is keeps told writes more put =

@@ -48,7 +48,7 @@ kept_none (Some xs) (Some ys) appends = appends ∙ append-nil xs
 
 -- a watch that has no answer: the granules that were found are written
 module _ (options : WatchOptions) (old new : Option (List ℕ)) where
-  pub before_it : (input : List ℕ) (f : LinesFault) (found : List FoundGranule) → IsLinesFault options.format input f → All (IsFoundBy options.format input) found → Appends old new (flat_map (found_text options.answer) found)
+  pub before_it : (input : List ℕ) (f : LinesFault) (found : List FoundGranule) → IsLinesFault options.format input f → All (IsFoundBy options.format input options.around) found → Appends old new (flat_map (found_text options.answer) found)
       → WatchOutcome options input old new (Err (found_before f found))
   before_it input f [] is all appends = is
   before_it input f (g ∷ found) is all appends = (is, (g ∷ found, all, omega arith, appends))
@@ -58,7 +58,7 @@ module _ (options : WatchOptions) (old new : Option (List ℕ)) where
   kept_before f (g ∷ found) appends = tt
 
   -- or a prefix of them, where they could not be
-  stops_in : (input : List ℕ) (f : LinesFault) (found : List FoundGranule) → IsWatchingFault options.format input f → All (IsFoundBy options.format input) found → ((f ≡ lines_fault.Write → ⊥) → Appends old new (flat_map (found_text options.answer) found))
+  stops_in : (input : List ℕ) (f : LinesFault) (found : List FoundGranule) → IsWatchingFault options.format input f → All (IsFoundBy options.format input options.around) found → ((f ≡ lines_fault.Write → ⊥) → Appends old new (flat_map (found_text options.answer) found))
       → AppendsFront old new (flat_map (found_text options.answer) found) → WatchOutcome options input old new (Err (stopped_by f found))
   stops_in input lines_fault.Write found is all kept front = inr (found, all, front)
   stops_in input lines_fault.Read found is all kept front = let not : lines_fault.Read ≡ lines_fault.Write → ⊥ = λ same. cc in before_it input lines_fault.Read found (is not) all (kept not)
@@ -70,7 +70,7 @@ module _ (options : WatchOptions) (old new : Option (List ℕ)) where
       let not : lines_fault.TooManyLines ≡ lines_fault.Write → ⊥ = λ same. cc in before_it input lines_fault.TooManyLines found (is not) all (kept not)
   stops_in input lines_fault.Memory found is all kept front = let not : lines_fault.Memory ≡ lines_fault.Write → ⊥ = λ same. cc in before_it input lines_fault.Memory found (is not) all (kept not)
 
-  pub stopped : (remaining : Option (List ℕ)) (u : Unfinished) → IfSome remaining (λ input. IsOutcome options.format input options.keep_going (Err u)) → ((u.fault ≡ lines_fault.Write → ⊥) → Appends old new (flat_map (found_text options.answer) u.found.items))
+  pub stopped : (remaining : Option (List ℕ)) (u : Unfinished) → IfSome remaining (λ input. IsOutcome options.format input options.keep_going options.around (Err u)) → ((u.fault ≡ lines_fault.Write → ⊥) → Appends old new (flat_map (found_text options.answer) u.found.items))
       → AppendsFront old new (flat_map (found_text options.answer) u.found.items) → IfSome remaining (λ input. WatchOutcome options input old new (Err (stopped_by u.fault u.found.items)))
   stopped None u is kept front = tt
   stopped (Some input) u (fault, all) kept front = stops_in input u.fault u.found.items fault all kept front
@@ -85,13 +85,13 @@ module _ (options : WatchOptions) (old new : Option (List ℕ)) where
 
 -- what is said once all is watched was written after the granules that were found, or what a fault leaves of it
 module _ (options : WatchOptions) (old mid new : Option (List ℕ)) (watched : Watched) (told : Appends old mid (flat_map (found_text options.answer) watched.found.items)) where
-  no_memory : (input : List ℕ) (fault : CheckFault) → IsWatched options.format input options.keep_going watched → fault ≡ stopped_by lines_fault.Memory watched.found.items → Keeps mid new
+  no_memory : (input : List ℕ) (fault : CheckFault) → IsWatched options.format input options.keep_going options.around watched → fault ≡ stopped_by lines_fault.Memory watched.found.items → Keeps mid new
       → WatchOutcome options input old new (Err fault)
   no_memory input fault is same keeps =
       subst (λ (f : CheckFault). WatchOutcome options input old new (Err f)) (sym same)
       (before_it options old new input lines_fault.Memory watched.found.items tt is.found (appends_kept old mid new (flat_map (found_text options.answer) watched.found.items) told keeps))
 
-  closed_in : (input : List ℕ) (result : Result ℕ CheckFault) → IsWatched options.format input options.keep_going watched → WritesClosing options watched mid new result → WatchOutcome options input old new result
+  closed_in : (input : List ℕ) (result : Result ℕ CheckFault) → IsWatched options.format input options.keep_going options.around watched → WritesClosing options watched mid new result → WatchOutcome options input old new result
   closed_in input (Ok status) is (status_is, appends) = (watched, is, status_is, taken_then old mid new (flat_map (found_text options.answer) watched.found.items) (closing_text options watched) told appends)
   closed_in input (Err (check_fault.Write fault)) is front = inl (watched, is, front_then old mid new (flat_map (found_text options.answer) watched.found.items) (closing_text options watched) told front)
   closed_in input (Err (check_fault.Input fault)) is (same, keeps) = no_memory input (check_fault.Input fault) is same keeps
@@ -102,7 +102,7 @@ module _ (options : WatchOptions) (old mid new : Option (List ℕ)) (watched : W
   closed_in input (Err check_fault.Unsaved) is (same, keeps) = no_memory input check_fault.Unsaved is same keeps
   closed_in input (Err check_fault.Unshown) is (same, keeps) = no_memory input check_fault.Unshown is same keeps
 
-  pub closed : (remaining : Option (List ℕ)) (result : Result ℕ CheckFault) → IfSome remaining (λ input. IsWatched options.format input options.keep_going watched) → WritesClosing options watched mid new result
+  pub closed : (remaining : Option (List ℕ)) (result : Result ℕ CheckFault) → IfSome remaining (λ input. IsWatched options.format input options.keep_going options.around watched) → WritesClosing options watched mid new result
       → IfSome remaining (λ input. WatchOutcome options input old new result)
   closed None result is writes = tt
   closed (Some input) result is writes = closed_in input result is writes

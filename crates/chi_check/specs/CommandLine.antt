@@ -10,7 +10,7 @@ use Rattle.chi_program.specs.Rules.{bare_app, number_rule, number_rule_or, switc
 abbrev pub budget_rule : Rule
 budget_rule = number_rule_or (codes "budget") (codes "1000000")
 
--- how many operations are shown is a whole number below 2^64, and 16 by default
+-- how many operations both show is a whole number below 2^64, and 16 by default
 abbrev pub around_rule : Rule
 around_rule = number_rule_or (codes "around") (codes "16")
 
@@ -50,12 +50,12 @@ operations_rule = number_rule_or (codes "require-operations") (codes "0")
 abbrev pub save_rule : Rule
 save_rule = text_rule (codes "save") []
 
--- The task `watch`: its input may tell flits, with points or without, and what errors say of them. It has a budget, a form of the answer,
--- a file of the lines of a granule and one of its page. It may be asked to keep going, and may require the end, operations, quiet and
--- judging. It has a file that is read.
+-- The task `watch`: its input may tell flits, with points or without, and what errors say of them. It has a budget, how many operations
+-- are shown, a form of the answer, a file of the lines of a granule and one of its page. It may be asked to keep going, and may require
+-- the end, operations, quiet and judging. It has a file that is read.
 abbrev pub watch_app : App
 watch_app =
-    with_rule (with_rule (with_rule (with_rule (with_rule (with_rule (with_rule (with_rule (with_rule (with_rule (with_rule (with_rule (with_rule (new_app (codes "watch")) (switch_rule (codes "flits"))) (switch_rule (codes "points"))) errors_rule) budget_rule) format_rule) save_rule) html_rule)
+    with_rule (with_rule (with_rule (with_rule (with_rule (with_rule (with_rule (with_rule (with_rule (with_rule (with_rule (with_rule (with_rule (with_rule (new_app (codes "watch")) (switch_rule (codes "flits"))) (switch_rule (codes "points"))) errors_rule) budget_rule) around_rule) format_rule) save_rule) html_rule)
     (switch_rule (codes "keep-going"))) (switch_rule (codes "require-end"))) operations_rule) (switch_rule (codes "require-quiet"))) (switch_rule (codes "require-judged"))) file_rule
 
 -- how many operations a bin has to count to be covered is a whole number below 2^64, and 1 by default

@@ -139,6 +139,7 @@ pub record HasWatchOptions (found : List Row) (options : WatchingOptions) : Type
   pub answer : options.answer ≡ answer_format found
   pub keep_going : options.keep_going ≡ has_word found (codes "keep-going") (codes "true")
   pub budget : IsNumberOr 1000000 (one_of (codes "budget") found) options.budget
+  pub around : IsNumberOr 16 (one_of (codes "around") found) options.around
   pub required : HasRequired found options.required
   pub save : option_map (λ s. s.now) options.save ≡ first_of (codes "save") found
   pub html : option_map (λ s. s.now) options.html ≡ first_of (codes "html") found

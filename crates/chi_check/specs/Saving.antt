@@ -65,6 +65,6 @@ AreSavedOf _ input rest lines events g saved = input ≡ saved ++ rest
 -- before what is said once all is watched was written; where no granule is listed nothing was put.
 abbrev pub SavesFirst : {P : Type 0} → (P → List ℕ → List ℕ → Type 0) → WatchingOptions → List ℕ → Option (List ℕ) → Option (List ℕ) → ℕ → P → P → Type 0
 SavesFirst has_put options input old new status before after =
-    IfSome options.save (λ path. (watched : Watched) × (is : IsWatched options.format input options.keep_going watched) × (status ≡ watch_status (watching options) watched)
+    IfSome options.save (λ path. (watched : Watched) × (is : IsWatched options.format input options.keep_going options.around watched) × (status ≡ watch_status (watching options) watched)
     × Appends old new (watched_text (watching options) watched)
     × IsPutOf has_put (first_listed watched) (AreSavedOf options.format input is.rest is.told.lines is.events) path.now before after)

@@ -29,7 +29,7 @@ page_options options g = record {
   memory = None;
   granule = Some (g * 8 % 2 ^ 64);
   until = None;
-  around = 16;
+  around = options.around;
   html = options.html;
 }
 
@@ -61,5 +61,5 @@ IsUnshown w fault = (fault ≡ check_fault.Unshown) ⊎ (fault ≡ stopped_by li
 -- at the path, before what is said once all is watched was written; where no granule is listed nothing was put.
 abbrev pub ShowsFirst : {P : Type 0} → (P → List ℕ → List ℕ → Type 0) → WatchingOptions → List ℕ → Option (List ℕ) → Option (List ℕ) → ℕ → P → P → Type 0
 ShowsFirst has_put options input old new status before after =
-    IfSome options.html (λ path. (watched : Watched) × (is : IsWatched options.format input options.keep_going watched) × (status ≡ watch_status (watching options) watched)
+    IfSome options.html (λ path. (watched : Watched) × (is : IsWatched options.format input options.keep_going options.around watched) × (status ≡ watch_status (watching options) watched)
     × Appends old new (watched_text (watching options) watched) × IsPutOf has_put (first_listed watched) (IsPageOfRead options input is.rest) path.now before after)

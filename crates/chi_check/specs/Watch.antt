@@ -22,7 +22,7 @@ use Rattle.chi_check.specs.declared.options.WatchingOptions.{WatchingOptions}
 
 -- how the lines are watched: they are kept where some are to be saved, or a page is to be made of them
 abbrev pub watching : WatchingOptions → WatchOptions
-watching options = record { format = options.format; answer = options.answer; budget = options.budget; keep_going = options.keep_going; keep_lines = is_some options.save || is_some options.html; required = options.required }
+watching options = record { format = options.format; answer = options.answer; budget = options.budget; around = options.around; keep_going = options.keep_going; keep_lines = is_some options.save || is_some options.html; required = options.required }
 
 -- 0 where all is explained and nothing that is required is missing, 1 where something is or a granule is not explained, 6 where it
 -- is undecided whether one is
@@ -55,16 +55,16 @@ WritesClosing options watched old new (Err fault) = (fault ≡ stopped_by lines_
 -- saved or no page could be put, and where the writer failed.
 abbrev pub WatchOutcome : WatchOptions → List ℕ → Option (List ℕ) → Option (List ℕ) → Result ℕ CheckFault → Type 0
 WatchOutcome options input old new (Ok status) =
-    (watched : Watched) × IsWatched options.format input options.keep_going watched × (status ≡ watch_status options watched) × Appends old new (watched_text options watched)
+    (watched : Watched) × IsWatched options.format input options.keep_going options.around watched × (status ≡ watch_status options watched) × Appends old new (watched_text options watched)
 WatchOutcome options input old new (Err (check_fault.Input (source_fault.Events fault))) = IsLinesFault options.format input fault
 WatchOutcome options input old new (Err (check_fault.Unfinished fault)) =
-    IsLinesFault options.format input fault × ((found : List FoundGranule) × All (IsFoundBy options.format input) found × (0 < length found) × Appends old new (flat_map (found_text options.answer) found))
-WatchOutcome options input old new (Err check_fault.Unsaved) = (watched : Watched) × IsWatched options.format input options.keep_going watched × Appends old new (flat_map (found_text options.answer) watched.found.items)
-WatchOutcome options input old new (Err check_fault.Unshown) = (watched : Watched) × IsWatched options.format input options.keep_going watched × Appends old new (flat_map (found_text options.answer) watched.found.items)
+    IsLinesFault options.format input fault × ((found : List FoundGranule) × All (IsFoundBy options.format input options.around) found × (0 < length found) × Appends old new (flat_map (found_text options.answer) found))
+WatchOutcome options input old new (Err check_fault.Unsaved) = (watched : Watched) × IsWatched options.format input options.keep_going options.around watched × Appends old new (flat_map (found_text options.answer) watched.found.items)
+WatchOutcome options input old new (Err check_fault.Unshown) = (watched : Watched) × IsWatched options.format input options.keep_going options.around watched × Appends old new (flat_map (found_text options.answer) watched.found.items)
 WatchOutcome options input old new (Err (check_fault.Input source_fault.Memory)) = Unit {0}
 WatchOutcome options input old new (Err (check_fault.Write fault)) =
-    ((watched : Watched) × IsWatched options.format input options.keep_going watched × AppendsFront old new (watched_text options watched))
-    ⊎ ((found : List FoundGranule) × All (IsFoundBy options.format input) found × AppendsFront old new (flat_map (found_text options.answer) found))
+    ((watched : Watched) × IsWatched options.format input options.keep_going options.around watched × AppendsFront old new (watched_text options watched))
+    ⊎ ((found : List FoundGranule) × All (IsFoundBy options.format input options.around) found × AppendsFront old new (flat_map (found_text options.answer) found))
 WatchOutcome options input old new (Err (check_fault.Input source_fault.Read)) = ⊥
 WatchOutcome options input old new (Err (check_fault.Input source_fault.TooLong)) = ⊥
 WatchOutcome options input old new (Err (check_fault.Input (source_fault.Trace fault))) = ⊥

@@ -17,8 +17,8 @@ use std::alloc::{AllocError, Global};
 // How many states of each granule are looked at where no number is given.
 const BUDGET: u64 = 1_000_000;
 
-/// How many operations are shown before the one that is blamed where no number is given.
-pub(crate) const AROUND: u64 = 16;
+// How many operations are shown before the one that is blamed where no number is given.
+const AROUND: u64 = 16;
 
 // How many operations have to have ended where no number is given.
 const OPERATIONS: u64 = 0;
@@ -201,6 +201,7 @@ pub(crate) fn watch_options<'a>(matches: &ArgMatches<'a>) -> WatchingOptions<'a>
         format: format_asked(matches),
         answer: answer_format(matches),
         budget: number_or(matches, "budget", BUDGET),
+        around: number_or(matches, "around", AROUND),
         keep_going: is_switched(matches, "keep-going"),
         required: required(matches),
         save: text_given(matches, "save"),

@@ -24,14 +24,16 @@ pub struct CheckOptions<'a> {
 }
 
 /// How lines are watched. `format` is what they tell, and `answer` the form in which what is found is written. `budget` is how many
-/// states are looked at for an answer. With `keep_going` a granule that no order explains does not end it. `required` changes
-/// nothing of what is found. `save` is the path of a file that is to be the lines that tell of the granule that is listed first,
-/// where one is listed that no order explains, or all flits up to there, and `html` that of one that is to be its page.
+/// states are looked at for an answer. `around` is how many operations of a granule are shown at most before the one that is blamed.
+/// With `keep_going` a granule that no order explains does not end it. `required` changes nothing of what is found. `save` is the
+/// path of a file that is to be the lines that tell of the granule that is listed first, where one is listed that no order explains,
+/// or all flits up to there, and `html` that of one that is to be its page.
 #[derive(Clone, Copy)]
 pub struct WatchingOptions<'a> {
     pub format: LineFormat,
     pub answer: AnswerFormat,
     pub budget: u64,
+    pub around: u64,
     pub keep_going: bool,
     pub required: Required,
     pub save: Option<&'a str>,

@@ -8,7 +8,6 @@ ghost use Rattle.chi_check.specs.Showing.{IsFirstShown, IsPageOf, IsUnshown, pag
 use crate::check::reported;
 use crate::fault::CheckFault;
 use crate::meter::Meter;
-use crate::option_values::AROUND;
 use crate::options::{CheckOptions, WatchingOptions};
 use crate::pages::Pages;
 use crate::save::first_listed;
@@ -30,7 +29,7 @@ fn page_options<'a>(options: &WatchingOptions<'a>, granule: u64) -> CheckOptions
         memory: None,
         granule: Some(granule.wrapping_mul(8)),
         until: None,
-        around: AROUND,
+        around: options.around,
         html: options.html,
     }
 }

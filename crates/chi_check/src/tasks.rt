@@ -9,6 +9,13 @@ const BUDGET: NamedOption<'static> = NamedOption {
     help: "States of each granule that are looked at for an answer",
 };
 
+// The number of operations that are shown.
+const AROUND: NamedOption<'static> = NamedOption {
+    name: "around",
+    takes: Takes::NumberOr("N", "16"),
+    help: "Operations of the granule that are shown before the one blamed",
+};
+
 // That the lines state flits.
 const FLITS: NamedOption<'static> = NamedOption {
     name: "flits",
@@ -67,11 +74,7 @@ const EXPLAIN: [NamedOption<'static>; 14] = [
         takes: Takes::Number("T"),
         help: "Judges what had happened by time T, and no words at the end",
     },
-    NamedOption {
-        name: "around",
-        takes: Takes::NumberOr("N", "16"),
-        help: "Operations of the granule that are shown before the one blamed",
-    },
+    AROUND,
     NamedOption {
         name: "html",
         takes: Takes::Text("FILE"),
@@ -92,11 +95,12 @@ const EXPLAIN: [NamedOption<'static>; 14] = [
 ];
 
 // The options of `watch`, and its file.
-const WATCH: [NamedOption<'static>; 13] = [
+const WATCH: [NamedOption<'static>; 14] = [
     FLITS,
     POINTS,
     ERRORS,
     BUDGET,
+    AROUND,
     NamedOption {
         name: "format",
         takes: Takes::TextOr("FORMAT", "text"),

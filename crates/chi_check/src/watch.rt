@@ -36,6 +36,7 @@ fn watching(options: &WatchingOptions<'_>) -> WatchOptions
         format: options.format,
         answer: options.answer,
         budget: options.budget,
+        around: options.around as usize,
         keep_going: options.keep_going,
         keep_lines: options.save.is_some() || options.html.is_some(),
         required: options.required,
@@ -90,7 +91,7 @@ fn watched<R: Read, W: Write, P: WatchProgress>(
     options: &WatchOptions,
     progress: &mut P,
 ) -> Result<Watched, Unfinished>
-    ensures outcome { IfSome (R.remaining from.old) (λ input. IsOutcome options.now.format input options.now.keep_going result) }
+    ensures outcome { IfSome (R.remaining from.old) (λ input. IsOutcome options.now.format input options.now.keep_going options.now.around result) }
     ensures told { IfOk result (λ watched. Appends (W.contents to.old) (W.contents to.new) (flat_map (found_text options.now.answer) watched.found.items)) }
     ensures kept { IfErr result (λ unfinished. unfinished.fault ≢ LinesFault.Write → Appends (W.contents to.old) (W.contents to.new) (flat_map (found_text options.now.answer) unfinished.found.items)) }
     ensures begun { IfErr result (λ unfinished. AppendsFront (W.contents to.old) (W.contents to.new) (flat_map (found_text options.now.answer) unfinished.found.items)) }

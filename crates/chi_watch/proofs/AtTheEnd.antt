@@ -18,11 +18,11 @@ use Rattle.chi_trace.specs.Words.{find_word, word_or_zero}
 use Rattle.chi_watch.specs.Endings.{AreToldTo, CanClose, IsExplainable, IsInexplicable, IsInexplicableAt, IsListed, judged_word}
 use Rattle.chi_watch.specs.Judged.{CanBeExplained, IsExplained, final_of, judged, judged_part, unknown_since}
 use Rattle.chi_watch.specs.WordsTold.{final_words, openings}
-use Rattle.chi_watch.specs.Reaching.{IsFoundAtEnd, IsFoundIn, IsOfSomeTrace, ReachesBy}
+use Rattle.chi_watch.specs.Reaching.{IsFoundAtEnd, IsFoundIn, IsOfSomeTrace, IsReach, ReachesBy}
 use Rattle.chi_watch.specs.Undecided.{AreExplainedAsFar, AreExplainedTo, GoesOnAt, IsAsFarIn, IsExplainedAsFar, IsExplainedIn, IsExplainedTo}
 use Rattle.chi_watch.specs.Watches.{HasTaken, IsGranuleOf, Watches, WatchValue, granule, told_of, unknown_by}
 use Rattle.chi_watch.specs.declared.ending.FoundAtEnd.{FoundAtEnd}
-use Rattle.chi_watch.specs.declared.followed.Followed.{Followed}
+use Rattle.chi_watch.specs.Followed.{FollowedValue}
 use Rattle.chi_watch.specs.declared.undecided.UndecidedAtEnd.{UndecidedAtEnd}
 use Rattle.chi_watch.proofs.MoreParts.{own_of, same_parts}
 use Rattle.chi_watch.proofs.MoreTold.{none_more, parts_moved}
@@ -31,55 +31,55 @@ use Rattle.chi_watch.proofs.ToldAtTheEnd.{own_open}
 use Rattle.chi_watch.proofs.Verdicts.{can_without, explained, is_judge, not_explained, told_by, whole_not_explained, word_is}
 
 -- the operations of each granule that are open were told of it
-abbrev pub AreClosed : WatchValue → (ℕ → Option Followed) → Type 0
+abbrev pub AreClosed : WatchValue → (ℕ → Option FollowedValue) → Type 0
 AreClosed w new = (g : ℕ) → AreToldTo (own_open g w.outstanding.requests) (granule w g) (new g)
 
-module _ (events : List Event) (ended : List Operation) (w : WatchValue) (new : ℕ → Option Followed) (is : Watches events ended w) (closed : AreClosed w new) where
+module _ (events : List Event) (ended : List Operation) (w : WatchValue) (new : ℕ → Option FollowedValue) (is : Watches events ended w) (closed : AreClosed w new) where
   -- Of a granule that is watched its judge was told what is judged of its operations, those that had ended and those that are open.
-  record IsFollowed (g : ℕ) (f : Followed) : Type 0 where
+  record IsFollowed (g : ℕ) (f : FollowedValue) : Type 0 where
     since : f.unknown_since ≡ unknown_since events g
-    shown : f.judge.shown ≡ 16
+    shown : f.judge.shown ≡ w.shown
     told : List Operation
     are : IsPermutation (flat_map (judged_part events) (told_of events (told_by ended w.outstanding) g)) told
     keeps : Keeps (word_or_zero (openings events) g ∷ []) told (2 ^ 64 - 1) f.judge
     final_word : f.final_word ≡ find_word (final_words events) g
 
-  followed : (g : ℕ) (a : Option Followed) (f : Followed) → IsGranuleOf events ended w.outstanding g a → AreToldTo (own_open g w.outstanding.requests) a (Some f) → IsFollowed g f
+  followed : (g : ℕ) (a : Option FollowedValue) (f : FollowedValue) → IsGranuleOf w.shown events ended w.outstanding g a → AreToldTo (own_open g w.outstanding.requests) a (Some f) → IsFollowed g f
   followed g None f was more = absurd more
   followed g (Some before) f was more = record {
     since = more.since ∙ was.since;
-    shown = more.shown ∙ was.shown;
+    shown = more.shown ∙ was.shown_is;
     told = was.told ++ flat_map (judged_part events) (own_open g w.outstanding.requests);
     are = parts_moved events g ended (filter_map open_operation w.outstanding.requests) was.told was.told_is;
     keeps =
         subst (λ l. Keeps (word_or_zero (openings events) g ∷ []) (was.told ++ l) (2 ^ 64 - 1) f.judge)
-        (same_parts events g (λ time. unknown_by before.gaps.items before.unknown_since time) was.gaps (own_open g w.outstanding.requests) (own_of g (filter_map open_operation w.outstanding.requests)))
+        (same_parts events g (λ time. unknown_by before.gaps before.unknown_since time) was.gaps (own_open g w.outstanding.requests) (own_of g (filter_map open_operation w.outstanding.requests)))
         (more.keeps (word_or_zero (openings events) g ∷ []) was.told
         (keeps_later (word_or_zero (openings events) g ∷ []) was.told w.outstanding.time before.judge was.keeps (2 ^ 64 - 1) (omega (arith, is.time))));
     final_word = more.final_word ∙ was.final_word;
   }
 
-  followed_here : (g : ℕ) (f : Followed) → AreToldTo (own_open g w.outstanding.requests) (granule w g) (Some f) → IsFollowed g f
+  followed_here : (g : ℕ) (f : FollowedValue) → AreToldTo (own_open g w.outstanding.requests) (granule w g) (Some f) → IsFollowed g f
   followed_here g f more = followed g (granule w g) f (is.each g) more
 
-  closed_judge : OperationsAreTold → (g : ℕ) (f : Followed) → IsFollowed g f → IsJudgeOf (judged events) g (word_or_zero (openings events) g) f.judge
+  closed_judge : OperationsAreTold → (g : ℕ) (f : FollowedValue) → IsFollowed g f → IsJudgeOf (judged events) g (word_or_zero (openings events) g) f.judge
   closed_judge operations_law g f own = is_judge operations_law events ended w.outstanding g is.tells (2 ^ 64 - 1) f.judge own.told own.are own.keeps
 
   -- One that is not watched has none, and no word was told of it at the end.
-  none_followed : (g : ℕ) (a : Option Followed) → IsGranuleOf events ended w.outstanding g a → AreToldTo (own_open g w.outstanding.requests) a None
+  none_followed : (g : ℕ) (a : Option FollowedValue) → IsGranuleOf w.shown events ended w.outstanding g a → AreToldTo (own_open g w.outstanding.requests) a None
       → (told_of events (told_by ended w.outstanding) g ≡ []) × (find_word (final_words events) g ≡ None)
   none_followed g (Some before) was more = absurd more
   none_followed g None was more = (none_more events g ended (filter_map open_operation w.outstanding.requests) was.none more, was.final_word)
 
   -- no order explains what its judge was told
-  inexplicable : (g : ℕ) (f : Followed) → IsFollowed g f → IsInexplicable f → CanNotExplain f.judge (final_of events g)
+  inexplicable : (g : ℕ) (f : FollowedValue) → IsFollowed g f → IsInexplicable f → CanNotExplain f.judge (final_of events g)
   inexplicable g f own none = subst (CanNotExplain f.judge) (word_is events g f own.since own.final_word) none
 
-  found_here : OperationsAreTold → PartsExplain → (found : FoundAtEnd) → IsInexplicableAt (new found.granule) → IsFoundIn new found → IsFoundAtEnd events found
+  found_here : OperationsAreTold → PartsExplain → (found : FoundAtEnd) → IsInexplicableAt (new found.granule) → IsFoundIn new found → IsFoundAtEnd w.shown events found
   found_here operations_law parts_law found none said = by_case (new found.granule) (closed found.granule) none said.final_word said.reach
     where
-      by_case : (b : Option Followed) → AreToldTo (own_open found.granule w.outstanding.requests) (granule w found.granule) b → IsInexplicableAt b
-          → IfSome b (λ f. found.final_word ≡ judged_word f) → IfSome b (λ f. ReachesBy f.judge found.reach) → IsFoundAtEnd events found
+      by_case : (b : Option FollowedValue) → AreToldTo (own_open found.granule w.outstanding.requests) (granule w found.granule) b → IsInexplicableAt b
+          → IfSome b (λ f. found.final_word ≡ judged_word f) → IfSome b (λ f. ReachesBy f.judge found.reach) → IsFoundAtEnd w.shown events found
       by_case None more none final_word reach = absurd none
       by_case (Some f) more none final_word reach =
           let own = followed_here found.granule f more in
@@ -88,13 +88,13 @@ module _ (events : List Event) (ended : List Operation) (w : WatchValue) (new : 
             none = not_explained operations_law events ended w.outstanding found.granule is.tells (2 ^ 64 - 1) f.judge own.told own.are own.keeps cannot;
             whole = λ can. whole_not_explained operations_law events ended w.outstanding found.granule is.tells (2 ^ 64 - 1) f.judge own.told own.are own.keeps parts_law cannot can.0 can.1;
             final_word = final_word ∙ word_is events found.granule f own.since own.final_word;
-            reach = reach own.shown (judged events) found.granule (word_or_zero (openings events) found.granule) (closed_judge operations_law found.granule f own);
+            reach = subst (λ (n : ℕ). IsReach n events found.granule found.reach) own.shown (reach (judged events) found.granule (word_or_zero (openings events) found.granule) (closed_judge operations_law found.granule f own));
           }
 
   reached_here : OperationsAreTold → (A : Type 0) (found : FoundAtEnd) → IsInexplicableAt (new found.granule) → IfSome (new found.granule) (λ f. IsOfSomeTrace f.judge → A) → A
   reached_here operations_law A found none spent = by_case (new found.granule) (closed found.granule) none spent
     where
-      by_case : (b : Option Followed) → AreToldTo (own_open found.granule w.outstanding.requests) (granule w found.granule) b → IsInexplicableAt b → IfSome b (λ f. IsOfSomeTrace f.judge → A) → A
+      by_case : (b : Option FollowedValue) → AreToldTo (own_open found.granule w.outstanding.requests) (granule w found.granule) b → IsInexplicableAt b → IfSome b (λ f. IsOfSomeTrace f.judge → A) → A
       by_case None more none spent = absurd none
       by_case (Some f) more none spent =
           spent (judged events, found.granule, word_or_zero (openings events) found.granule, closed_judge operations_law found.granule f (followed_here found.granule f more))
@@ -103,12 +103,12 @@ module _ (events : List Event) (ended : List Operation) (w : WatchValue) (new : 
   explained_to_here : OperationsAreTold → (u : UndecidedAtEnd) → GoesOnAt (new u.granule) → IsExplainedIn new u → IsExplainedTo events u
   explained_to_here operations_law u goes said = by_case (new u.granule) (closed u.granule) goes said
     where
-      at_time : (f : Followed) (found : Option ℕ) → IsJudgeOf (judged events) u.granule (word_or_zero (openings events) u.granule) f.judge → AreExplainedTo f.judge found
+      at_time : (f : FollowedValue) (found : Option ℕ) → IsJudgeOf (judged events) u.granule (word_or_zero (openings events) u.granule) f.judge → AreExplainedTo f.judge found
           → IfSome found (λ time. IsExplainedUpTo time (judged events) u.granule (word_or_zero (openings events) u.granule))
       at_time f None of_judge by = tt
       at_time f (Some time) of_judge by = by (judged events) u.granule (word_or_zero (openings events) u.granule) of_judge
 
-      by_case : (b : Option Followed) → AreToldTo (own_open u.granule w.outstanding.requests) (granule w u.granule) b → GoesOnAt b → IfSome b (λ f. AreExplainedTo f.judge u.explained)
+      by_case : (b : Option FollowedValue) → AreToldTo (own_open u.granule w.outstanding.requests) (granule w u.granule) b → GoesOnAt b → IfSome b (λ f. AreExplainedTo f.judge u.explained)
           → IsExplainedTo events u
       by_case None more goes said = absurd goes
       by_case (Some f) more goes said = at_time f u.explained (closed_judge operations_law u.granule f (followed_here u.granule f more)) said
@@ -118,7 +118,7 @@ module _ (events : List Event) (ended : List Operation) (w : WatchValue) (new : 
       → IsAsFarIn looked before after budget new u → IsExplainedAsFar looked before after budget events u
   as_far_here operations_law looked before after budget u goes said = by_case (new u.granule) (closed u.granule) goes said
     where
-      by_case : (b : Option Followed) → AreToldTo (own_open u.granule w.outstanding.requests) (granule w u.granule) b → GoesOnAt b
+      by_case : (b : Option FollowedValue) → AreToldTo (own_open u.granule w.outstanding.requests) (granule w u.granule) b → GoesOnAt b
           → IfSome b (λ f. AreExplainedAsFar looked before after budget f.judge u.explained) → IsExplainedAsFar looked before after budget events u
       by_case None more goes said = absurd goes
       by_case (Some f) more goes said =
@@ -128,7 +128,7 @@ module _ (events : List Event) (ended : List Operation) (w : WatchValue) (new : 
   explainable_here : OperationsAreTold → GranulesStandAlone → (g : ℕ) → IfSome (new g) IsExplainable → CanBeExplained events g
   explainable_here operations_law granules_law g can = by_case (new g) (closed g) can
     where
-      by_case : (b : Option Followed) → AreToldTo (own_open g w.outstanding.requests) (granule w g) b → IfSome b IsExplainable → CanBeExplained events g
+      by_case : (b : Option FollowedValue) → AreToldTo (own_open g w.outstanding.requests) (granule w g) b → IfSome b IsExplainable → CanBeExplained events g
       by_case None more can =
           let none = none_followed g (granule w g) (is.each g) more in
           can_without granules_law operations_law events ended w.outstanding g is.tells none.0 none.1
@@ -141,40 +141,40 @@ module _ (events : List Event) (ended : List Operation) (w : WatchValue) (new : 
   explainable operations_law granules_law whole_law each =
       explained operations_law whole_law events ended w.outstanding is.tells (λ g. explainable_here operations_law granules_law g (each g))
 
-pub ended_found : OperationsAreTold → PartsExplain → (w : WatchValue) (new : ℕ → Option Followed) → All (IsOpen w.outstanding.time) w.outstanding.requests
+pub ended_found : OperationsAreTold → PartsExplain → (w : WatchValue) (new : ℕ → Option FollowedValue) → All (IsOpen w.outstanding.time) w.outstanding.requests
     → (All (CanClose (granule w)) w.outstanding.requests → AreClosed w new) → (found : FoundAtEnd) → IsInexplicableAt (new found.granule) → IsFoundIn new found
-    → (events : List Event) → HasTaken events w → IsFoundAtEnd events found
+    → (events : List Event) → HasTaken events w → IsFoundAtEnd w.shown events found
 ended_found operations_law parts_law w new are_open closes found none said events (ended, is) =
     found_here events ended w new is (closes (all_can_close events ended w is are_open)) operations_law parts_law found none said
 
-pub ended_reached : OperationsAreTold → (A : Type 0) (w : WatchValue) (new : ℕ → Option Followed) → All (IsOpen w.outstanding.time) w.outstanding.requests
+pub ended_reached : OperationsAreTold → (A : Type 0) (w : WatchValue) (new : ℕ → Option FollowedValue) → All (IsOpen w.outstanding.time) w.outstanding.requests
     → (All (CanClose (granule w)) w.outstanding.requests → AreClosed w new) → (found : FoundAtEnd) → IsInexplicableAt (new found.granule)
     → IfSome (new found.granule) (λ f. IsOfSomeTrace f.judge → A) → (events : List Event) → HasTaken events w → A
 ended_reached operations_law A w new are_open closes found none spent events (ended, is) =
     reached_here events ended w new is (closes (all_can_close events ended w is are_open)) operations_law A found none spent
 
-pub ended_explained_to : OperationsAreTold → (w : WatchValue) (new : ℕ → Option Followed) → All (IsOpen w.outstanding.time) w.outstanding.requests
+pub ended_explained_to : OperationsAreTold → (w : WatchValue) (new : ℕ → Option FollowedValue) → All (IsOpen w.outstanding.time) w.outstanding.requests
     → (All (CanClose (granule w)) w.outstanding.requests → AreClosed w new) → (u : UndecidedAtEnd) → GoesOnAt (new u.granule) → IsExplainedIn new u
     → (events : List Event) → HasTaken events w → IsExplainedTo events u
 ended_explained_to operations_law w new are_open closes u goes said events (ended, is) =
     explained_to_here events ended w new is (closes (all_can_close events ended w is are_open)) operations_law u goes said
 
-pub ended_far : OperationsAreTold → (w : WatchValue) (new : ℕ → Option Followed) → All (IsOpen w.outstanding.time) w.outstanding.requests
+pub ended_far : OperationsAreTold → (w : WatchValue) (new : ℕ → Option FollowedValue) → All (IsOpen w.outstanding.time) w.outstanding.requests
     → (All (CanClose (granule w)) w.outstanding.requests → AreClosed w new) → {P : Type 0} (looked : P → ℕ → Type 0) (before after : P) (budget : ℕ) (u : UndecidedAtEnd) → GoesOnAt (new u.granule)
     → IsAsFarIn looked before after budget new u → (events : List Event) → HasTaken events w → IsExplainedAsFar looked before after budget events u
 ended_far operations_law w new are_open closes looked before after budget u goes said events (ended, is) =
     as_far_here events ended w new is (closes (all_can_close events ended w is are_open)) operations_law looked before after budget u goes said
 
-pub ended_explained : OperationsAreTold → GranulesStandAlone → GranulesExplain → (w : WatchValue) (new : ℕ → Option Followed) → All (IsOpen w.outstanding.time) w.outstanding.requests
+pub ended_explained : OperationsAreTold → GranulesStandAlone → GranulesExplain → (w : WatchValue) (new : ℕ → Option FollowedValue) → All (IsOpen w.outstanding.time) w.outstanding.requests
     → (All (CanClose (granule w)) w.outstanding.requests → AreClosed w new) → ((g : ℕ) → IfSome (new g) IsExplainable) → (events : List Event) → HasTaken events w → IsExplained events
 ended_explained operations_law granules_law whole_law w new are_open closes each events (ended, is) =
     explainable events ended w new is (closes (all_can_close events ended w is are_open)) operations_law granules_law whole_law each
 
 -- a granule that can be explained, or of which something else is so
-abbrev CanOr : Type 0 → Option Followed → Type 0
+abbrev CanOr : Type 0 → Option FollowedValue → Type 0
 CanOr A o = IfSome o (λ f. IsExplainable f ⊎ A)
 
-pub ended_each : OperationsAreTold → GranulesStandAlone → (A : Type 0) (w : WatchValue) (new : ℕ → Option Followed) → All (IsOpen w.outstanding.time) w.outstanding.requests
+pub ended_each : OperationsAreTold → GranulesStandAlone → (A : Type 0) (w : WatchValue) (new : ℕ → Option FollowedValue) → All (IsOpen w.outstanding.time) w.outstanding.requests
     → (All (CanClose (granule w)) w.outstanding.requests → AreClosed w new) → (g : ℕ) → IfSome (new g) (λ f. IsExplainable f ⊎ A) → (events : List Event) → HasTaken events w
     → CanBeExplained events g ⊎ A
 ended_each operations_law granules_law A w new are_open closes g said events (ended, is) = by_case (new g) said here
@@ -182,7 +182,7 @@ ended_each operations_law granules_law A w new are_open closes g said events (en
     here : IfSome (new g) IsExplainable → CanBeExplained events g
     here can = explainable_here events ended w new is (closes (all_can_close events ended w is are_open)) operations_law granules_law g can
 
-    by_case : (o : Option Followed) → CanOr A o → (IfSome o IsExplainable → CanBeExplained events g) → CanBeExplained events g ⊎ A
+    by_case : (o : Option FollowedValue) → CanOr A o → (IfSome o IsExplainable → CanBeExplained events g) → CanBeExplained events g ⊎ A
     by_case None can explains = inl (explains tt)
     by_case (Some f) (inl can) explains = inl (explains can)
     by_case (Some f) (inr other) explains = inr other
@@ -202,7 +202,7 @@ none_contained : (l : List ℕ) (g : ℕ) → l ≡ [] → Contains l g → ⊥
 none_contained l g none (k, below, is) = omega (arith, below, ap length none)
 
 -- where none is listed each can be explained
-pub none_listed : (g : ℕ) (un dec : List ℕ) → un ≡ [] → dec ≡ [] → (o : Option Followed) → IfSome o (λ f. IsExplainable f ⊎ IsListed g un dec) → IfSome o IsExplainable
+pub none_listed : (g : ℕ) (un dec : List ℕ) → un ≡ [] → dec ≡ [] → (o : Option FollowedValue) → IfSome o (λ f. IsExplainable f ⊎ IsListed g un dec) → IfSome o IsExplainable
 none_listed g un dec no_un no_dec None said = tt
 none_listed g un dec no_un no_dec (Some f) (inl can) = can
 none_listed g un dec no_un no_dec (Some f) (inr (inl in_un)) = absurd (none_contained un g no_un in_un)

@@ -1,7 +1,6 @@
 -- what a watch knows once an operation has ended
 use Rattle.std.proofs.Common.{◌≡◌, ℕ, ◌/◌, ◌≤◌, ◌==◌, ◌⊎◌, Bool, true, false, List, [], ◌∷◌, ◌++◌, All, Option, Some, None, IfSome, IsTrue, is_some, filter, flat_map, map, cond, inl, inr, refl, sym, ap, ap₂, subst, ◌∙◌, arith, append-nil, eqb-true, eq-eqb, true≢false}
-use Rattle.std.specs.Prelude.{IsPermutation, Vec, max, option_to_list}
-use Rattle.std.specs.declared.alloc.Global.{Global}
+use Rattle.std.specs.Prelude.{IsPermutation, max, option_to_list}
 use Rattle.std.proofs.lemmas.List.Elements.{All-cons, All-contains, All-nil, All-weaker, filter-append}
 use Rattle.chi_events.specs.declared.event.Event.{Event}
 use Rattle.chi_events.specs.declared.outstanding.Open.{Open}
@@ -13,7 +12,7 @@ use Rattle.chi_trace.specs.AtPlaces.{is_in}
 use Rattle.chi_trace.specs.Granules.{granule_of}
 use Rattle.chi_trace.specs.declared.operation.Operation.{Operation}
 use Rattle.chi_trace.specs.Words.{word_or_zero}
-use Rattle.chi_watch.specs.declared.followed.Followed.{Followed}
+use Rattle.chi_watch.specs.Followed.{FollowedValue}
 use Rattle.chi_watch.specs.Changes.{CanEnd, IsClosed, IsClosedBy, IsTold}
 use Rattle.chi_watch.specs.declared.followed.Gap.{Gap}
 use Rattle.chi_watch.specs.Judged.{judged_part, unknown_at}
@@ -39,7 +38,7 @@ ends_more g ended op is =
 own_one : (g : ℕ) (op : Operation) → granule_of op ≡ g → filter (is_in g) (op ∷ []) ≡ op ∷ []
 own_one g op is = ap (λ (b : Bool). cond b (op ∷ []) []) (eq-eqb (granule_of op) g is)
 
-module _ (events : List Event) (ended : List Operation) (before after : OutstandingValue) (e : Event) (now : after.time ≡ e.time) (later : before.time ≤ e.time)
+module _ (n : ℕ) (events : List Event) (ended : List Operation) (before after : OutstandingValue) (e : Event) (now : after.time ≡ e.time) (later : before.time ≤ e.time)
     (stay : All (StaysOrStarts before.requests e) after.requests) where
   -- a horizon stays one, since a request that is taken now starts no earlier
   starts_on : (g horizon : ℕ) → horizon ≤ before.time → StartsBy before.requests g horizon → StartsBy after.requests g horizon
@@ -56,7 +55,7 @@ module _ (events : List Event) (ended : List Operation) (before after : Outstand
       filter-append (is_in g) more (writes_told events) ∙ (ap (λ l. l ++ filter (is_in g) (writes_told events)) same ∙ sym (filter-append (is_in g) ended (writes_told events)))
 
   -- where no operation of the granule ended
-  watched_on : (g : ℕ) (f : Followed) (more : List Operation) → filter (is_in g) more ≡ filter (is_in g) ended → IsWatched events ended before g f → IsWatched events more after g f
+  watched_on : (g : ℕ) (f : FollowedValue) (more : List Operation) → filter (is_in g) more ≡ filter (is_in g) ended → IsWatched n events ended before g f → IsWatched n events more after g f
   watched_on g f more same w = record {
     since = w.since;
     gaps = w.gaps;
@@ -70,20 +69,20 @@ module _ (events : List Event) (ended : List Operation) (before after : Outstand
     latest = omega (arith, w.latest, later, now);
     past = omega (arith, w.past, later, now);
     horizon = starts_on g f.judge.horizon w.past w.horizon;
-    shown = w.shown;
+    shown_is = w.shown_is;
     final_word = w.final_word;
   }
     where
       told : told_of events more g ≡ told_of events ended g
       told = same_told g more same
 
-  stays_on : (g : ℕ) (x : Option Followed) (more : List Operation) → filter (is_in g) more ≡ filter (is_in g) ended → IsGranuleOf events ended before g x → IsGranuleOf events more after g x
+  stays_on : (g : ℕ) (x : Option FollowedValue) (more : List Operation) → filter (is_in g) more ≡ filter (is_in g) ended → IsGranuleOf n events ended before g x → IsGranuleOf n events more after g x
   stays_on g None more same w = record { known = w.known; none = same_told g more same ∙ w.none; times = w.times; opening = w.opening; final_word = w.final_word }
   stays_on g (Some f) more same w = watched_on g f more same w
 
   -- where an operation of the granule ended
   module _ (op : Operation) (ends : IsEndOf before.requests e.time op) (horizon : ℕ) (early : horizon ≤ op.start) (g : ℕ) (is : granule_of op ≡ g) (earliest : StartsBy after.requests g horizon) where
-    can_end : (f : Followed) → IsWatched events ended before g f → CanEnd horizon f.judge op
+    can_end : (f : FollowedValue) → IsWatched n events ended before g f → CanEnd horizon f.judge op
     can_end f w =
         let own : granule_of_request ends.request ≡ g = ap (λ n. n / 8) (sym ends.at) ∙ is in
         let starts : f.judge.horizon ≤ ends.request.start = All-contains (λ (q : Open). granule_of_request q ≡ g → f.judge.horizon ≤ q.start) before.requests ends.request w.horizon ends.is own in
@@ -95,12 +94,12 @@ module _ (events : List Event) (ended : List Operation) (before after : Outstand
           within = ends.within;
         }
 
-    told_on : (old new : Followed) → IsTold op horizon old new → IsWatched events ended before g old → IsWatched events (ended ++ op ∷ []) after g new
+    told_on : (old new : FollowedValue) → IsTold op horizon old new → IsWatched n events ended before g old → IsWatched n events (ended ++ op ∷ []) after g new
     told_on old new t w = record {
       since = t.since ∙ w.since;
-      gaps = λ time. ap₂ (λ (gaps : Vec Gap Global) (since : Option ℕ). unknown_by gaps.items since time) t.gaps t.since ∙ w.gaps time;
-      gaps_by = subst (λ (gaps : Vec Gap Global). All (λ (gap : Gap). gap.until ≤ new.last) gaps.items) (sym t.gaps)
-          (All-weaker (λ (gap : Gap). gap.until ≤ old.last) (λ (gap : Gap). gap.until ≤ new.last) (λ gap by. omega (arith, by, w.last_by, later, ends.end, t.last)) old.gaps.items w.gaps_by);
+      gaps = λ time. ap₂ (λ (gaps : List Gap) (since : Option ℕ). unknown_by gaps since time) t.gaps t.since ∙ w.gaps time;
+      gaps_by = subst (λ (gaps : List Gap). All (λ (gap : Gap). gap.until ≤ new.last) gaps) (sym t.gaps)
+          (All-weaker (λ (gap : Gap). gap.until ≤ old.last) (λ (gap : Gap). gap.until ≤ new.last) (λ gap by. omega (arith, by, w.last_by, later, ends.end, t.last)) old.gaps w.gaps_by);
       told = w.told ++ part;
       told_is = subst (λ (l : List Operation). IsPermutation (flat_map (judged_part events) (told_of events (ended ++ op ∷ []) g)) (w.told ++ l)) one_part (parts_moved events g ended (op ∷ []) w.told w.told_is);
       keeps = keeps_later words (w.told ++ part) op.end new.judge kept after.time (omega (arith, ends.end, now));
@@ -113,7 +112,7 @@ module _ (events : List Event) (ended : List Operation) (before after : Outstand
       latest = omega (arith, t.heard.latest, ends.end, now);
       past = past old.judge.horizon new.judge.horizon w.past t.heard.horizon_is;
       horizon = starts old.judge.horizon new.judge.horizon w.past w.horizon t.heard.horizon_is;
-      shown = t.heard.shown ∙ w.shown;
+      shown_is = t.heard.shown ∙ w.shown_is;
       final_word = t.final_word ∙ w.final_word;
     }
       where
@@ -130,7 +129,7 @@ module _ (events : List Event) (ended : List Operation) (before after : Outstand
         words = word_or_zero (openings events) g ∷ []
 
         part : List Operation
-        part = until (unknown_by old.gaps.items old.unknown_since op.start) (op ∷ [])
+        part = until (unknown_by old.gaps old.unknown_since op.start) (op ∷ [])
 
         one_part : flat_map (judged_part events) (filter (is_in g) (op ∷ [])) ≡ part
         one_part =
@@ -141,24 +140,24 @@ module _ (events : List Event) (ended : List Operation) (before after : Outstand
         kept : Keeps words (w.told ++ part) op.end new.judge
         kept = t.heard.keeps words w.told (keeps_later words w.told before.time old.judge w.keeps op.end (omega (arith, later, ends.end)))
 
-    closed_on : (x y : Option Followed) → IsTrue (is_some x) → IsClosed op horizon x y → IsGranuleOf events ended before g x → IsGranuleOf events (ended ++ op ∷ []) after g y
+    closed_on : (x y : Option FollowedValue) → IsTrue (is_some x) → IsClosed op horizon x y → IsGranuleOf n events ended before g x → IsGranuleOf n events (ended ++ op ∷ []) after g y
     closed_on None y some t w = absurd (true≢false (sym some))
     closed_on (Some old) None some t w = absurd t
     closed_on (Some old) (Some new) some t w = told_on old new (t.told (can_end old w)) w
 
   -- what is known of each granule
-  pub closed : (old new : ℕ → Option Followed) (op : Option Operation) → IfSome op (IsEndOf before.requests e.time) → All (λ p. IsTrue (is_some (old (granule_of_request p)))) before.requests
-      → IsClosedBy op after.requests old new → (g : ℕ) → IsGranuleOf events ended before g (old g) → IsGranuleOf events (ended ++ option_to_list op) after g (new g)
+  pub closed : (old new : ℕ → Option FollowedValue) (op : Option Operation) → IfSome op (IsEndOf before.requests e.time) → All (λ p. IsTrue (is_some (old (granule_of_request p)))) before.requests
+      → IsClosedBy op after.requests old new → (g : ℕ) → IsGranuleOf n events ended before g (old g) → IsGranuleOf n events (ended ++ option_to_list op) after g (new g)
   closed old new None ends requested t g w =
-      subst (IsGranuleOf events (ended ++ []) after g) (sym (t g)) (stays_on g (old g) (ended ++ []) (ap (filter (is_in g)) (append-nil ended)) w)
+      subst (IsGranuleOf n events (ended ++ []) after g) (sym (t g)) (stays_on g (old g) (ended ++ []) (ap (filter (is_in g)) (append-nil ended)) w)
   closed old new (Some op) ends requested (horizon, early, earliest, more) g w = by_granule (granule_of op == g) refl
     where
-      by_granule : (b : Bool) → (granule_of op == g) ≡ b → IsGranuleOf events (ended ++ op ∷ []) after g (new g)
+      by_granule : (b : Bool) → (granule_of op == g) ≡ b → IsGranuleOf n events (ended ++ op ∷ []) after g (new g)
       by_granule true same =
           let is : granule_of op ≡ g = eqb-true (granule_of op) g same in
           let at : granule_of_request ends.request ≡ g = ap (λ n. n / 8) (sym ends.at) ∙ is in
           let some : IsTrue (is_some (old g)) = subst (λ n. IsTrue (is_some (old n))) at (All-contains (λ (p : Open). IsTrue (is_some (old (granule_of_request p)))) before.requests ends.request requested ends.is) in
           closed_on op ends horizon early g is (rw (← is) earliest) (old g) (new g) some (rw (← is) more.own) w
       by_granule false other =
-          subst (IsGranuleOf events (ended ++ op ∷ []) after g) (sym (more.others g (λ same. absurd (true≢false (sym (eq-eqb (granule_of op) g (sym same)) ∙ other)))))
+          subst (IsGranuleOf n events (ended ++ op ∷ []) after g) (sym (more.others g (λ same. absurd (true≢false (sym (eq-eqb (granule_of op) g (sym same)) ∙ other)))))
           (stays_on g (old g) (ended ++ op ∷ []) (other_more g ended op other) w)

@@ -10,7 +10,7 @@ use Rattle.chi_events.specs.declared.event.Event.{Event}
 use Rattle.chi_trace.specs.declared.operation.Operation.{Operation}
 use Rattle.chi_watch.specs.Counts.{ended_operations}
 use Rattle.chi_watch.specs.Watches.{WatchValue, Watches}
-use Rattle.chi_watch.specs.declared.followed.Followed.{Followed}
+use Rattle.chi_watch.specs.Followed.{FollowedValue}
 
 module _ (events : List Event) (ended : List Operation) (w : WatchValue) (is : Watches events ended w) where
   pub ended_counted : w.ended ≡ min (length (ended_operations events)) (2 ^ 64 - 1)
@@ -20,17 +20,17 @@ module _ (events : List Event) (ended : List Operation) (w : WatchValue) (is : W
   outstanding_counted = ap length is.tells.requests ∙ simp length-map
 
 -- the granules that are not judged
-abbrev unknown_of : List (ℕ × Followed) → ℕ
+abbrev unknown_of : List (ℕ × FollowedValue) → ℕ
 unknown_of entries = count_by (λ e. is_some e.1.unknown_since) entries
 
 -- one granule more is counted
-pub unjudged_more : (count later total : ℕ) (before after : List (ℕ × Followed)) (g : ℕ) (f : Followed) → before ≡ (g, f) ∷ after
+pub unjudged_more : (count later total : ℕ) (before after : List (ℕ × FollowedValue)) (g : ℕ) (f : FollowedValue) → before ≡ (g, f) ∷ after
     → later ≡ min (count + (if is_some f.unknown_since then 1 else 0)) (2 ^ 64 - 1) → min (count + unknown_of before) (2 ^ 64 - 1) ≡ min total (2 ^ 64 - 1)
     → min (later + unknown_of after) (2 ^ 64 - 1) ≡ min total (2 ^ 64 - 1)
 unjudged_more count later total before after g f one more so_far = by_known (is_some f.unknown_since) whole more
   where
     whole : unknown_of before ≡ cond (is_some f.unknown_since) 1 0 + unknown_of after
-    whole = ap unknown_of one ∙ sum_by-cons (λ (e : ℕ × Followed). cond (is_some e.1.unknown_since) 1 0) (g, f) after
+    whole = ap unknown_of one ∙ sum_by-cons (λ (e : ℕ × FollowedValue). cond (is_some e.1.unknown_since) 1 0) (g, f) after
 
     by_known : (b : Bool) → unknown_of before ≡ cond b 1 0 + unknown_of after → later ≡ min (count + (if b then 1 else 0)) (2 ^ 64 - 1)
         → min (later + unknown_of after) (2 ^ 64 - 1) ≡ min total (2 ^ 64 - 1)

@@ -22,13 +22,13 @@ use Rattle.chi_watch.specs.Judged.{CanBeExplained, final_of, is_known, judged, j
 use Rattle.chi_watch.specs.WordsTold.{openings, writes_told}
 use Rattle.chi_events.specs.Granules.{IsQuiet, granule_of_request}
 use Rattle.chi_watch.specs.Watches.{CanBeJudged, HasStopped, HasTaken, IsFound, IsGranuleOf, IsUnexplained, IsWatched, WatchValue, Watches, granule, told_of}
-use Rattle.chi_watch.specs.declared.followed.Followed.{Followed}
+use Rattle.chi_watch.specs.Followed.{FollowedValue}
 use Rattle.chi_watch.proofs.Lists.{All-filter_map}
 use Rattle.chi_watch.proofs.Verdicts.{can_without, is_judge, not_explained, quiet_none, told_by, whole_not_explained, word_is}
 use Rattle.chi_watch.proofs.JudgedParts.{part_all}
 use Rattle.chi_watch.proofs.MoreTold.{parts_moved}
 
-is_quiet : (requests : List Open) (g : ℕ) → list_any (λ (p : Open). granule_of_request p == g) requests ≡ false → IsQuiet requests g
+pub is_quiet : (requests : List Open) (g : ℕ) → list_any (λ (p : Open). granule_of_request p == g) requests ≡ false → IsQuiet requests g
 is_quiet [] g none = All-nil (λ (p : Open). granule_of_request p ≡ g → ⊥)
 is_quiet (p ∷ requests) g none = by_test (granule_of_request p == g) refl none (is_quiet requests g)
   where
@@ -51,14 +51,14 @@ module _ (events : List Event) (ended : List Operation) (w : WatchValue) (are_op
       ∙ sym (filter-append (is_in g) ended (writes_told events)))
 
 -- a granule that can be judged, or cannot
-pub can_be : (w : WatchValue) (g : ℕ) (f : Followed) → granule w g ≡ Some f → (not (list_any (λ p. granule_of_request p == g) w.outstanding.requests) || f.judge.is_stopped) ≡ true → CanBeJudged w g
+pub can_be : (w : WatchValue) (g : ℕ) (f : FollowedValue) → granule w g ≡ Some f → (not (list_any (λ p. granule_of_request p == g) w.outstanding.requests) || f.judge.is_stopped) ≡ true → CanBeJudged w g
 can_be w g f here can = by_test (list_any (λ p. granule_of_request p == g) w.outstanding.requests) refl can
   where
     by_test : (b : Bool) → list_any (λ p. granule_of_request p == g) w.outstanding.requests ≡ b → (not b || f.judge.is_stopped) ≡ true → CanBeJudged w g
     by_test true is_open stopped = inr (subst HasStopped (sym here) stopped)
     by_test false quiet so = inl quiet
 
-pub can_not : (w : WatchValue) (g : ℕ) (f : Followed) → granule w g ≡ Some f → (not (list_any (λ p. granule_of_request p == g) w.outstanding.requests) || f.judge.is_stopped) ≡ false → CanBeJudged w g → ⊥
+pub can_not : (w : WatchValue) (g : ℕ) (f : FollowedValue) → granule w g ≡ Some f → (not (list_any (λ p. granule_of_request p == g) w.outstanding.requests) || f.judge.is_stopped) ≡ false → CanBeJudged w g → ⊥
 can_not w g f here not_so can =
     let parts = or_parts (not (list_any (λ p. granule_of_request p == g) w.outstanding.requests)) f.judge.is_stopped not_so in
     elim can [
@@ -103,13 +103,13 @@ open_starts g horizon p at starts = by_access p.access at
     by_access (Some access) is = λ own. (starts (ap (λ addr. addr / 8) (sym is) ∙ own), refl)
 
 -- All the operations of a granule count as told, where it is quiet, or has stopped.
-pub record AreAllKept (events : List Event) (ended : List Operation) (o : OutstandingValue) (g : ℕ) (f : Followed) : Type 0 where
+pub record AreAllKept (events : List Event) (ended : List Operation) (o : OutstandingValue) (g : ℕ) (f : FollowedValue) : Type 0 where
   pub told : List Operation
   pub are : IsPermutation (flat_map (judged_part events) (told_of events (told_by ended o) g)) told
   pub keeps : Keeps (word_or_zero (openings events) g ∷ []) told (2 ^ 64 - 1) f.judge
 
 pub keeps_all : (events : List Event) (ended : List Operation) (w : WatchValue) → All (IsOpen w.outstanding.time) w.outstanding.requests → Watches events ended w
-    → (g : ℕ) (f : Followed) → granule w g ≡ Some f → CanBeJudged w g → AreAllKept events ended w.outstanding g f
+    → (g : ℕ) (f : FollowedValue) → granule w g ≡ Some f → CanBeJudged w g → AreAllKept events ended w.outstanding g f
 keeps_all events ended w are_open is g f here can =
     elim can [
       | inl quiet ↦ record {
@@ -135,8 +135,8 @@ keeps_all events ended w are_open is g f here can =
     those : List Operation
     those = filter_map open_operation w.outstanding.requests
 
-    watched : IsWatched events ended w.outstanding g f
-    watched = subst (IsGranuleOf events ended w.outstanding g) here (is.each g)
+    watched : IsWatched w.shown events ended w.outstanding g f
+    watched = subst (IsGranuleOf w.shown events ended w.outstanding g) here (is.each g)
 
     keeps : Keeps words watched.told (2 ^ 64 - 1) f.judge
     keeps = keeps_later words watched.told w.outstanding.time f.judge watched.keeps (2 ^ 64 - 1) (omega (arith, is.time))
@@ -149,11 +149,11 @@ found_is operations_law parts_law events w are_open (ended, is) g found = record
   whole = whole_not_explained operations_law events ended w.outstanding g is.tells (2 ^ 64 - 1) f.judge all.told all.are all.keeps parts_law none;
 }
   where
-    f : Followed
+    f : FollowedValue
     f = found.followed
 
-    watched : IsWatched events ended w.outstanding g f
-    watched = subst (IsGranuleOf events ended w.outstanding g) found.is (is.each g)
+    watched : IsWatched w.shown events ended w.outstanding g f
+    watched = subst (IsGranuleOf w.shown events ended w.outstanding g) found.is (is.each g)
 
     all : AreAllKept events ended w.outstanding g f
     all = keeps_all events ended w are_open is g f found.is found.judged
@@ -174,7 +174,7 @@ not_found_is operations_law granules_law A events w are_open (ended, is) g quiet
         by_time None so = refl
         by_time (Some time) so = absurd (true≢false (sym so))
 
-    by_case : (x : Option Followed) → granule w g ≡ x → IsGranuleOf events ended w.outstanding g x → IfSome x (λ f. f.unknown_since ≡ None → IsExplainable f ⊎ A) → CanBeExplained events g ⊎ A
+    by_case : (x : Option FollowedValue) → granule w g ≡ x → IsGranuleOf w.shown events ended w.outstanding g x → IfSome x (λ f. f.unknown_since ≡ None → IsExplainable f ⊎ A) → CanBeExplained events g ⊎ A
     by_case None here was said =
         inl (can_without granules_law operations_law events ended w.outstanding g is.tells (alone events ended w are_open g quiet ∙ was.none) was.final_word)
     by_case (Some f) here was said = elim (said since) [

@@ -16,13 +16,13 @@ use Rattle.chi_judge.specs.Standings.{IfExplained, IfUndecided, IfUnexplained, I
 use Rattle.chi_watch.specs.ListedAs.{IsListedAs}
 use Rattle.chi_watch.specs.Undecided.{GoesOnAt}
 use Rattle.chi_watch.specs.declared.judge_all.Listed.{Listed}
-use Rattle.chi_watch.specs.declared.followed.Followed.{Followed}
+use Rattle.chi_watch.specs.Followed.{FollowedValue}
 use Rattle.chi_judge.specs.declared.standing.Standing.{Standing}
 use Rattle.chi_judge.specs.declared.standing.Standing.TheVariants.{Explained, Undecided, Unexplained}
 use Rattle.chi_watch.proofs.Looked.{LookedFor, looked_decided, looked_first, looked_undecided}
 
 -- a granule that is explained or listed
-abbrev IsSaid : List ℕ → List ℕ → ℕ × Followed → Type 0
+abbrev IsSaid : List ℕ → List ℕ → ℕ × FollowedValue → Type 0
 IsSaid unexplained undecided e = IsExplainable e.1 ⊎ IsListed e.0 unexplained undecided
 
 -- what is listed stays listed where one more is
@@ -42,11 +42,11 @@ pub said_undecided : (s : Standing) (A : Type 0) → s ≡ Undecided → IfUndec
 said_undecided s A is said = subst (λ t. IfUndecided t A) is said
 
 -- what is said of all entries is said of the one that a granule has
-pub said_here : (entries : List (ℕ × Followed)) (un dec : List ℕ) → All (λ e. IsExplainable e.1 ⊎ IsListed e.0 un dec) entries
+pub said_here : (entries : List (ℕ × FollowedValue)) (un dec : List ℕ) → All (λ e. IsExplainable e.1 ⊎ IsListed e.0 un dec) entries
     → (g : ℕ) → IfSome (lookup (is_at (nat_cmp g)) entries) (λ f. IsExplainable f ⊎ IsListed g un dec)
 said_here entries un dec all g = by_case (lookup (is_at (nat_cmp g)) entries) refl
   where
-    by_case : (o : Option Followed) → lookup (is_at (nat_cmp g)) entries ≡ o → IfSome o (λ f. IsExplainable f ⊎ IsListed g un dec)
+    by_case : (o : Option FollowedValue) → lookup (is_at (nat_cmp g)) entries ≡ o → IfSome o (λ f. IsExplainable f ⊎ IsListed g un dec)
     by_case None is = tt
     by_case (Some f) is = All-contains (IsSaid un dec) entries (g, f) all (Contains-from_lookup {eq = λ q. is_at (nat_cmp q)} same_key g f entries is)
       where
@@ -58,10 +58,10 @@ said_here entries un dec all g = by_case (lookup (is_at (nat_cmp g)) entries) re
             by_order Equal is_o so = exact_unsigned x y is_o
             by_order Greater is_o so = absurd (true≢false (sym so))
 
-module _ {P : Type 0} (looked : Search → P → ℕ → Type 0) (budget : ℕ) (get : ℕ → Option Followed) (entries : List (ℕ × Followed)) (start : P) where
+module _ {P : Type 0} (looked : Search → P → ℕ → Type 0) (budget : ℕ) (get : ℕ → Option FollowedValue) (entries : List (ℕ × FollowedValue)) (start : P) where
   -- The entries before those that are left are explained or listed, as it is said. The map has each that is left.
-  pub record AreJudged (now : P) (ending : Listed) (left : List (ℕ × Followed)) : Type 0 where
-    pub seen : List (ℕ × Followed)
+  pub record AreJudged (now : P) (ending : Listed) (left : List (ℕ × FollowedValue)) : Type 0 where
+    pub seen : List (ℕ × FollowedValue)
     pub parts : entries ≡ seen ++ left
     pub said : All (IsSaid ending.unexplained.items ending.undecided.items) seen
     pub has : All (λ e. get e.0 ≡ Some e.1) left
@@ -69,7 +69,7 @@ module _ {P : Type 0} (looked : Search → P → ℕ → Type 0) (budget : ℕ) 
     pub go_on : All (λ g. GoesOnAt (get g)) ending.undecided.items
     pub spent : LookedFor (looked for_verdict) start now budget ending.undecided.items
 
-  pub judged_none : (ending : Listed) (left : List (ℕ × Followed)) → ending.unexplained.items ≡ [] → ending.undecided.items ≡ [] → left ≡ entries
+  pub judged_none : (ending : Listed) (left : List (ℕ × FollowedValue)) → ending.unexplained.items ≡ [] → ending.undecided.items ≡ [] → left ≡ entries
       → All (λ e. get e.0 ≡ Some e.1) entries → AreJudged start ending left
   judged_none ending left no_un no_dec is has = record {
     seen = [];
@@ -82,12 +82,12 @@ module _ {P : Type 0} (looked : Search → P → ℕ → Type 0) (budget : ℕ) 
   }
 
   -- once none is left each is explained or listed
-  pub judged_all : (now : P) (ending : Listed) (left : List (ℕ × Followed)) → left ≡ [] → AreJudged now ending left
+  pub judged_all : (now : P) (ending : Listed) (left : List (ℕ × FollowedValue)) → left ≡ [] → AreJudged now ending left
       → All (λ e. IsExplainable e.1 ⊎ IsListed e.0 ending.unexplained.items ending.undecided.items) entries
   judged_all now ending left none are =
       subst (All (IsSaid ending.unexplained.items ending.undecided.items)) (sym (are.parts ∙ (ap (λ l. are.seen ++ l) none ∙ append-nil are.seen))) are.said
 
-  module _ (now : P) (ending : Listed) (left rest : List (ℕ × Followed)) (g : ℕ) (f : Followed) (one : left ≡ (g, f) ∷ rest) (are : AreJudged now ending left) where
+  module _ (now : P) (ending : Listed) (left rest : List (ℕ × FollowedValue)) (g : ℕ) (f : FollowedValue) (one : left ≡ (g, f) ∷ rest) (are : AreJudged now ending left) where
     here : get g ≡ Some f
     here = All-head (λ e. get e.0 ≡ Some e.1) (g, f) rest (subst (All (λ e. get e.0 ≡ Some e.1)) one are.has)
 

@@ -7,6 +7,7 @@ pub mod Found
 pub mod FoundWords
 pub mod JudgedParts
 pub mod Judging
+pub mod KeptJudge
 pub mod LastTimes
 pub mod Lists
 pub mod Looked
@@ -17,6 +18,7 @@ pub mod Noted
 pub mod NotedKinds
 pub mod Opened
 pub mod Reached
+pub mod SettledOn
 pub mod Taken
 pub mod ToldAtTheEnd
 pub mod Touched

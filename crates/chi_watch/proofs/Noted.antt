@@ -14,7 +14,7 @@ use Rattle.chi_trace.specs.AtPlaces.{is_in}
 use Rattle.chi_trace.specs.declared.operation.Operation.{Operation}
 use Rattle.chi_trace.specs.declared.words.GranuleWord.{GranuleWord}
 use Rattle.chi_trace.specs.Words.{find_word, word_or_zero}
-use Rattle.chi_watch.specs.declared.followed.Followed.{Followed}
+use Rattle.chi_watch.specs.Followed.{FollowedValue}
 use Rattle.chi_watch.specs.declared.followed.Gap.{Gap}
 use Rattle.chi_watch.specs.Changes.{IsUntouched}
 use Rattle.chi_watch.specs.Judged.{judged_part, tells_word, unknown_at}
@@ -35,9 +35,9 @@ none_of_both [] ys none = refl
 none_of_both (x ∷ xs) ys none = absurd (omega (arith, ap length none))
 
 -- a granule that is watched from now on
-pub begun : (events : List Event) (ended : List Operation) (o : OutstandingValue) (g word : ℕ) (f : Followed) → list_any (λ (e : Event). covers g e.kind) events ≡ false → told_of events ended g ≡ [] → times_told events g ≡ []
-    → word_or_zero (openings events) g ≡ word → find_word (final_words events) g ≡ None → IsUntouched word f → IsWatched events ended o g f
-begun events ended o g word f known none times opening final_word u = record {
+pub begun : (n : ℕ) (events : List Event) (ended : List Operation) (o : OutstandingValue) (g word : ℕ) (f : FollowedValue) → list_any (λ (e : Event). covers g e.kind) events ≡ false → told_of events ended g ≡ [] → times_told events g ≡ []
+    → word_or_zero (openings events) g ≡ word → find_word (final_words events) g ≡ None → IsUntouched n word f → IsWatched n events ended o g f
+begun n events ended o g word f known none times opening final_word u = record {
   since = u.since ∙ sym (unknown_none events g (2 ^ 64 - 1) known);
   gaps = λ time. ap₂ (λ (gaps : List Gap) (since : Option ℕ). unknown_by gaps since time) u.gaps u.since ∙ sym (unknown_none events g time known);
   gaps_by = subst (All (λ (gap : Gap). gap.until ≤ f.last)) (sym u.gaps) (All-nil (λ (gap : Gap). gap.until ≤ f.last));
@@ -50,7 +50,7 @@ begun events ended o g word f known none times opening final_word u = record {
   latest = omega (arith, u.latest);
   past = omega (arith, u.horizon);
   horizon = from_start o g f.judge.horizon u.horizon;
-  shown = u.shown;
+  shown_is = u.shown_is;
   final_word = u.final_word ∙ sym final_word;
 }
 
@@ -105,8 +105,8 @@ module _ (events : List Event) (e : Event) where
     pub last_same : times_told (events ++ e ∷ []) g ≡ times_told events g → last_time events ended g ≡ last_time (events ++ e ∷ []) ended g
     last_same same = ap (λ (later : List ℕ). max (latest_of (map (λ (op : Operation). op.end) (filter (is_in g) ended))) (latest_of later)) (sym same)
 
-    pub watched_retold : (o : OutstandingValue) (f : Followed) → IsRetold → IsWatched events ended o g f → IsWatched (events ++ e ∷ []) ended o g f
-    watched_retold o f same w = record {
+    pub watched_retold : (n : ℕ) (o : OutstandingValue) (f : FollowedValue) → IsRetold → IsWatched n events ended o g f → IsWatched n (events ++ e ∷ []) ended o g f
+    watched_retold n o f same w = record {
       since = w.since ∙ sym (same.at (2 ^ 64 - 1));
       gaps = λ time. w.gaps time ∙ sym (same.at time);
       gaps_by = w.gaps_by;
@@ -119,7 +119,7 @@ module _ (events : List Event) (e : Event) where
       latest = w.latest;
       past = w.past;
       horizon = w.horizon;
-      shown = w.shown;
+      shown_is = w.shown_is;
       final_word = w.final_word ∙ sym same.final_word;
     }
 
@@ -137,6 +137,6 @@ module _ (events : List Event) (e : Event) where
         or_none false so = refl
 
     -- where the event tells nothing of the granule
-    pub retold : (o : OutstandingValue) (x : Option Followed) → covers g e.kind ≡ false → IsRetold → IsGranuleOf events ended o g x → IsGranuleOf (events ++ e ∷ []) ended o g x
-    retold o None uncovered same w = untold_retold uncovered same w
-    retold o (Some f) uncovered same w = watched_retold o f same w
+    pub retold : (n : ℕ) (o : OutstandingValue) (x : Option FollowedValue) → covers g e.kind ≡ false → IsRetold → IsGranuleOf n events ended o g x → IsGranuleOf n (events ++ e ∷ []) ended o g x
+    retold n o None uncovered same w = untold_retold uncovered same w
+    retold n o (Some f) uncovered same w = watched_retold n o f same w

@@ -15,7 +15,7 @@ use Rattle.chi_watch.specs.Changes.{CanEnd, HasOneMore, IsClosed}
 use Rattle.chi_watch.specs.Endings.{AreToldTo, CanClose, TakesOpen}
 use Rattle.chi_events.specs.Granules.{granule_of_request}
 use Rattle.chi_watch.specs.Watches.{IsGranuleOf, WatchValue, Watches, granule, unknown_by}
-use Rattle.chi_watch.specs.declared.followed.Followed.{Followed}
+use Rattle.chi_watch.specs.Followed.{FollowedValue}
 use Rattle.chi_watch.proofs.ToldAtTheEnd.{told_none}
 
 -- the operation is the request's
@@ -26,7 +26,7 @@ pub record IsOpened (p : Open) (op : Operation) : Type 0 where
   pub lasting : op.start ≤ op.end
   pub within : op.access.addr + op.access.len ≤ 2 ^ 52
 
-pub opened : (granules : ℕ → Option Followed) (p : Open) (op : Operation) → CanClose granules p → Some op ≡ open_operation p → IsOpened p op
+pub opened : (granules : ℕ → Option FollowedValue) (p : Open) (op : Operation) → CanClose granules p → Some op ≡ open_operation p → IsOpened p op
 opened granules p op can = by_access p.access can.at can.within
   where
     by_access : (a : Option Access) → IfSome a (λ access. access.addr ≡ p.fields.addr) → IfSome a (λ access. access.addr + access.len ≤ 2 ^ 52)
@@ -38,13 +38,13 @@ opened granules p op can = by_access p.access can.at can.within
 
 -- what a granule takes that is told it
 module _ (op : Operation) (lasting : op.start ≤ op.end) (within : op.access.addr + op.access.len ≤ 2 ^ 52) (end : op.end ≡ 2 ^ 64 - 1) where
-  can_end : (f : Followed) → (f.judge.horizon ≤ op.start) × (f.judge.latest ≤ 2 ^ 64 - 1) → CanEnd 0 f.judge op
+  can_end : (f : FollowedValue) → (f.judge.horizon ≤ op.start) × (f.judge.latest ≤ 2 ^ 64 - 1) → CanEnd 0 f.judge op
   can_end f takes = record { past = takes.0; starts = omega arith; ends = subst (λ n. f.judge.latest ≤ n) (sym end) takes.1; lasting = lasting; within = within }
 
-  part : Followed → List Operation
-  part f = until (unknown_by f.gaps.items f.unknown_since op.start) (op ∷ [])
+  part : FollowedValue → List Operation
+  part f = until (unknown_by f.gaps f.unknown_since op.start) (op ∷ [])
 
-  told_to : (x y : Option Followed) → TakesOpen op.start x → IsClosed op 0 x y → AreToldTo (op ∷ []) x y
+  told_to : (x y : Option FollowedValue) → TakesOpen op.start x → IsClosed op 0 x y → AreToldTo (op ∷ []) x y
   unfolding part
   told_to None y takes is = absurd takes
   told_to (Some f) None takes is = absurd is
@@ -60,7 +60,7 @@ module _ (op : Operation) (lasting : op.start ≤ op.end) (within : op.access.ad
         gaps = t.gaps;
       }
 
-  takes_on : (start : ℕ) (x y : Option Followed) → TakesOpen op.start x → IsClosed op 0 x y → TakesOpen start x → TakesOpen start y
+  takes_on : (start : ℕ) (x y : Option FollowedValue) → TakesOpen op.start x → IsClosed op 0 x y → TakesOpen start x → TakesOpen start y
   takes_on start None y takes is other = absurd takes
   takes_on start (Some f) None takes is other = absurd is
   takes_on start (Some f) (Some h) takes is other =
@@ -74,7 +74,7 @@ module _ (op : Operation) (lasting : op.start ≤ op.end) (within : op.access.ad
       horizon from to was (inr same) = subst (λ n. n ≤ start) (sym same) was
 
 -- one request's operation is told of its granule
-module _ (p : Open) (op : Operation) (old new : ℕ → Option Followed) (can : CanClose old p) (is : Some op ≡ open_operation p) (more : HasOneMore op 0 old new) where
+module _ (p : Open) (op : Operation) (old new : ℕ → Option FollowedValue) (can : CanClose old p) (is : Some op ≡ open_operation p) (more : HasOneMore op 0 old new) where
   own : IsOpened p op
   own = opened old p op can is
 
@@ -108,8 +108,8 @@ module _ (p : Open) (op : Operation) (old new : ℕ → Option Followed) (can : 
 
 -- each outstanding request's operation can be told, where the watch took the events
 module _ (events : List Event) (ended : List Operation) (w : WatchValue) (is : Watches events ended w) (are_open : All (IsOpen w.outstanding.time) w.outstanding.requests) where
-  takes_open : (p : Open) → p.start ≤ w.outstanding.time → Contains w.outstanding.requests p → (x : Option Followed) → IsTrue (is_some x)
-      → IsGranuleOf events ended w.outstanding (granule_of_request p) x → TakesOpen p.start x
+  takes_open : (p : Open) → p.start ≤ w.outstanding.time → Contains w.outstanding.requests p → (x : Option FollowedValue) → IsTrue (is_some x)
+      → IsGranuleOf w.shown events ended w.outstanding (granule_of_request p) x → TakesOpen p.start x
   takes_open p start has None some of = absurd (true≢false (sym some))
   takes_open p start has (Some f) some of = (
     All-contains (λ (q : Open). granule_of_request q ≡ granule_of_request p → f.judge.horizon ≤ q.start) w.outstanding.requests p of.horizon has refl,

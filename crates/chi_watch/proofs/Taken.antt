@@ -13,7 +13,7 @@ use Rattle.chi_events.specs.Outstanding.{IsEndOf, IsEndOfAbout, IsEvent, Outstan
 use Rattle.chi_events.specs.RequestEvents.{requested}
 use Rattle.chi_trace.specs.Granules.{granule_of}
 use Rattle.chi_trace.specs.declared.operation.Operation.{Operation}
-use Rattle.chi_watch.specs.declared.followed.Followed.{Followed}
+use Rattle.chi_watch.specs.Followed.{FollowedValue}
 use Rattle.chi_events.specs.declared.event.WordTold.{WordTold}
 use Rattle.chi_events.specs.Outstanding.{fault_of as outstanding_fault}
 use Rattle.std.specs.Option.{option_or}
@@ -30,12 +30,12 @@ use Rattle.chi_watch.proofs.NotedKinds.{Fits, TakesWord, noted}
 use Rattle.chi_watch.proofs.UnknownTimes.{unknown_covered, unknown_none}
 
 -- a granule is watched after an operation ended just where it was before, and its word at the end is told just where it was
-module _ (requests : List Open) (old new : ℕ → Option Followed) where
+module _ (requests : List Open) (old new : ℕ → Option FollowedValue) where
   same_some : (op : Option Operation) → IsClosedBy op requests old new → (g : ℕ) → is_some (new g) ≡ is_some (old g)
   same_some None t g = ap is_some (t g)
   same_some (Some op) (horizon, early, earliest, more) g = by_granule (g == granule_of op) refl
     where
-      own : (x y : Option Followed) → IsClosed op horizon x y → is_some y ≡ is_some x
+      own : (x y : Option FollowedValue) → IsClosed op horizon x y → is_some y ≡ is_some x
       own None y is = ap is_some is
       own (Some x) None is = absurd is
       own (Some x) (Some y) is = refl
@@ -48,7 +48,7 @@ module _ (requests : List Open) (old new : ℕ → Option Followed) where
   same_final_word None t g = ap has_final_word (t g)
   same_final_word (Some op) (horizon, early, earliest, more) g = by_granule (g == granule_of op) refl
     where
-      own : (x y : Option Followed) → IsClosed op horizon x y → has_final_word y ≡ has_final_word x
+      own : (x y : Option FollowedValue) → IsClosed op horizon x y → has_final_word y ≡ has_final_word x
       own None y is = ap has_final_word is
       own (Some x) None is = absurd is
       own (Some x) (Some y) is = ap is_some is.final_word
@@ -58,52 +58,52 @@ module _ (requests : List Open) (old new : ℕ → Option Followed) where
       by_granule false other = ap has_final_word (more.others g (λ same. absurd (true≢false (sym (eq-eqb g (granule_of op) same) ∙ other))))
 
 -- a granule that is watched stays so
-module _ (old new : ℕ → Option Followed) where
-  others_some : (here : ℕ) (f : Followed) → new here ≡ Some f → OthersStay old new here → (g : ℕ) → IsTrue (is_some (old g)) → IsTrue (is_some (new g))
+module _ (old new : ℕ → Option FollowedValue) where
+  others_some : (here : ℕ) (f : FollowedValue) → new here ≡ Some f → OthersStay old new here → (g : ℕ) → IsTrue (is_some (old g)) → IsTrue (is_some (new g))
   others_some here f is others g some = by_granule (g == here) refl
     where
       by_granule : (b : Bool) → (g == here) ≡ b → IsTrue (is_some (new g))
       by_granule true same = let at : g ≡ here = eqb-true g here same in rw at (ap is_some is)
       by_granule false other = ap is_some (others g (λ same. absurd (true≢false (sym (eq-eqb g here same) ∙ other)))) ∙ some
 
-  noted_some : (time : ℕ) (k : EventKind) → IsUpdated time k old new → (g : ℕ) → IsTrue (is_some (old g)) → IsTrue (is_some (new g))
-  noted_some time (Request r) t g some = others_some (r.fields.addr / 8) t.followed t.is t.others g some
-  noted_some time (Word w) t g some = by_granule (g == w.granule) refl
+  noted_some : (n time : ℕ) (k : EventKind) → IsUpdated n time k old new → (g : ℕ) → IsTrue (is_some (old g)) → IsTrue (is_some (new g))
+  noted_some n time (Request r) t g some = others_some (r.fields.addr / 8) t.followed t.is t.others g some
+  noted_some n time (Word w) t g some = by_granule (g == w.granule) refl
     where
-      is_watched : (x y : Option Followed) → BecomesKnown time w x y → IsTrue (is_some y)
+      is_watched : (x y : Option FollowedValue) → BecomesKnown n time w x y → IsTrue (is_some y)
       is_watched x None is = absurd is
       is_watched x (Some f) is = refl
 
       by_granule : (b : Bool) → (g == w.granule) ≡ b → IsTrue (is_some (new g))
       by_granule true same = let at : g ≡ w.granule = eqb-true g w.granule same in rw at (is_watched (old w.granule) (new w.granule) t.known)
       by_granule false other = ap is_some (t.others g (λ same. absurd (true≢false (sym (eq-eqb g w.granule same) ∙ other)))) ∙ some
-  noted_some time (Final w) t g some = others_some w.granule (record t.followed { final_word = Some w.word }) t.is t.others g some
-  noted_some time (Unknown addr len) t g some = by_test (covers g (Unknown addr len)) refl
+  noted_some n time (Final w) t g some = others_some w.granule (record t.followed { final_word = Some w.word }) t.is t.others g some
+  noted_some n time (Unknown addr len) t g some = by_test (covers g (Unknown addr len)) refl
     where
-      is_watched : (x y : Option Followed) → BecomesUnknown time x y → IsTrue (is_some y)
+      is_watched : (x y : Option FollowedValue) → BecomesUnknown n time x y → IsTrue (is_some y)
       is_watched x None is = absurd is
       is_watched x (Some f) is = refl
 
       by_test : (b : Bool) → covers g (Unknown addr len) ≡ b → IsTrue (is_some (new g))
       by_test true covered = is_watched (old g) (new g) ((t g).unknown covered)
       by_test false other = ap is_some ((t g).same other) ∙ some
-  noted_some time (Data p) t g some = ap is_some (t g) ∙ some
-  noted_some time (Reply c) t g some = ap is_some (t g) ∙ some
-  noted_some time (Dropped id) t g some = ap is_some (t g) ∙ some
-  noted_some time (Refused id reason) t g some = ap is_some (t g) ∙ some
-  noted_some time End t g some = ap is_some (t g) ∙ some
+  noted_some n time (Data p) t g some = ap is_some (t g) ∙ some
+  noted_some n time (Reply c) t g some = ap is_some (t g) ∙ some
+  noted_some n time (Dropped id) t g some = ap is_some (t g) ∙ some
+  noted_some n time (Refused id reason) t g some = ap is_some (t g) ∙ some
+  noted_some n time End t g some = ap is_some (t g) ∙ some
 
   -- the granule of a request that is taken is watched
-  request_some : (time : ℕ) (k : EventKind) (r : Requested) → requested k ≡ Some r → IsUpdated time k old new → IsTrue (is_some (new (r.fields.addr / 8)))
-  request_some time (Request q) r is t = subst (λ (o : Option Requested). IfSome o (λ s. IsTrue (is_some (new (s.fields.addr / 8))))) is (ap is_some t.is)
-  request_some time (Word w) r is t = absurd (true≢false (ap is_some (sym is)))
-  request_some time (Final w) r is t = absurd (true≢false (ap is_some (sym is)))
-  request_some time (Unknown addr len) r is t = absurd (true≢false (ap is_some (sym is)))
-  request_some time (Data p) r is t = absurd (true≢false (ap is_some (sym is)))
-  request_some time (Reply c) r is t = absurd (true≢false (ap is_some (sym is)))
-  request_some time (Dropped id) r is t = absurd (true≢false (ap is_some (sym is)))
-  request_some time (Refused id reason) r is t = absurd (true≢false (ap is_some (sym is)))
-  request_some time End r is t = absurd (true≢false (ap is_some (sym is)))
+  request_some : (n time : ℕ) (k : EventKind) (r : Requested) → requested k ≡ Some r → IsUpdated n time k old new → IsTrue (is_some (new (r.fields.addr / 8)))
+  request_some n time (Request q) r is t = subst (λ (o : Option Requested). IfSome o (λ s. IsTrue (is_some (new (s.fields.addr / 8))))) is (ap is_some t.is)
+  request_some n time (Word w) r is t = absurd (true≢false (ap is_some (sym is)))
+  request_some n time (Final w) r is t = absurd (true≢false (ap is_some (sym is)))
+  request_some n time (Unknown addr len) r is t = absurd (true≢false (ap is_some (sym is)))
+  request_some n time (Data p) r is t = absurd (true≢false (ap is_some (sym is)))
+  request_some n time (Reply c) r is t = absurd (true≢false (ap is_some (sym is)))
+  request_some n time (Dropped id) r is t = absurd (true≢false (ap is_some (sym is)))
+  request_some n time (Refused id reason) r is t = absurd (true≢false (ap is_some (sym is)))
+  request_some n time End r is t = absurd (true≢false (ap is_some (sym is)))
 
 -- what is no fault
 pub none_of : {F : Type 0} (b : Bool) (f : F) (rest : Option F) → (if b then Some f else rest) ≡ None → b ≡ false
@@ -111,7 +111,7 @@ none_of true f rest is = absurd (true≢false (ap is_some is))
 none_of false f rest is = refl
 
 -- a word may be told of the granule
-takes_word : (time g : ℕ) (x : Option Followed) (is_open : Bool) → word_fault time x is_open ≡ None → TakesWord time x
+takes_word : (time g : ℕ) (x : Option FollowedValue) (is_open : Bool) → word_fault time x is_open ≡ None → TakesWord time x
 takes_word time g None is_open none = tt
 takes_word time g (Some f) is_open none = by_test (is_some f.final_word) f.unknown_since none
   where
@@ -121,9 +121,9 @@ takes_word time g (Some f) is_open none = by_test (is_some f.final_word) f.unkno
     by_test false None so = absurd (true≢false (ap is_some so))
     by_test false (Some from) so = (refl, leb-false time f.last (or_parts is_open (nat_le time f.last) (none_of (is_open || nat_le time f.last) fault.WordEarly None so)).1)
 
-module _ (events : List Event) (ended : List Operation) (w : WatchValue) (e : Event) (o : OutstandingValue) (op : Option Operation) (mid : ℕ → Option Followed) (final_word : List (ℕ × Followed)) (count : ℕ) where
+module _ (events : List Event) (ended : List Operation) (w : WatchValue) (e : Event) (o : OutstandingValue) (op : Option Operation) (mid : ℕ → Option FollowedValue) (final_word : List (ℕ × FollowedValue)) (count : ℕ) where
   abbrev now : WatchValue
-  now = record { outstanding = o; granules = final_word; ended = count }
+  now = record { outstanding = o; granules = final_word; ended = count; shown = w.shown }
 
   -- one operation more had ended, if one did
   counted : count ≡ min (w.ended + length (option_to_list op)) (2 ^ 64 - 1) → w.ended ≡ min (length ended) (2 ^ 64 - 1) → count ≡ min (length (ended ++ option_to_list op)) (2 ^ 64 - 1)
@@ -150,13 +150,13 @@ module _ (events : List Event) (ended : List Operation) (w : WatchValue) (e : Ev
   fits c End about is = tt
 
   pub taken : granule_fault w e.time e.kind ≡ None → o.time ≡ e.time → w.outstanding.time ≤ e.time → All (StaysOrStarts w.outstanding.requests e) o.requests → IfSome op (IsEndOf w.outstanding.requests e.time) → IfSome op (IsEndOfAbout w.outstanding.requests e.kind)
-      → IsClosedBy op o.requests (granule w) mid → IsUpdated e.time e.kind mid (granule now) → Tells (events ++ e ∷ []) (ended ++ option_to_list op) o
+      → IsClosedBy op o.requests (granule w) mid → IsUpdated w.shown e.time e.kind mid (granule now) → Tells (events ++ e ∷ []) (ended ++ option_to_list op) o
       → count ≡ min (w.ended + length (option_to_list op)) (2 ^ 64 - 1) → Watches events ended w → Watches (events ++ e ∷ []) (ended ++ option_to_list op) now
   taken none at later stay ends about c t tells more is = record {
     tells = tells;
     time = subst (λ n. n < 2 ^ 64) (sym at) last.time;
-    each = noted events e (ended ++ option_to_list op) o at (All-weaker (λ (x : Event). x.time ≤ o.time) (λ (x : Event). x.time ≤ e.time) (λ x by. omega (arith, by, at)) events earlier) last.time mid (granule now)
-        (λ g. closed events ended w.outstanding o e at later stay (granule w) mid op ends is.requested c g (is.each g)) e.kind refl (fits c e.kind about none) t;
+    each = noted w.shown events e (ended ++ option_to_list op) o at (All-weaker (λ (x : Event). x.time ≤ o.time) (λ (x : Event). x.time ≤ e.time) (λ x by. omega (arith, by, at)) events earlier) last.time mid (granule now)
+        (λ g. closed w.shown events ended w.outstanding o e at later stay (granule w) mid op ends is.requested c g (is.each g)) e.kind refl (fits c e.kind about none) t;
     requested = All-weaker (StaysOrStarts w.outstanding.requests e) (λ (p : Open). IsTrue (is_some (granule now (granule_of_request p)))) each o.requests stay;
     count = counted more is.count;
   }
@@ -169,11 +169,11 @@ module _ (events : List Event) (ended : List Operation) (w : WatchValue) (e : Ev
 
       each : (p : Open) → StaysOrStarts w.outstanding.requests e p → IsTrue (is_some (granule now (granule_of_request p)))
       each p (inl (start, (r, is_r, fields))) =
-          subst (λ (n : ℕ). IsTrue (is_some (granule now n))) (ap (λ a. a.addr / 8) (sym fields)) (request_some mid (granule now) e.time e.kind r is_r t)
+          subst (λ (n : ℕ). IsTrue (is_some (granule now n))) (ap (λ a. a.addr / 8) (sym fields)) (request_some mid (granule now) w.shown e.time e.kind r is_r t)
       each p (inr (old, has, start, fields)) =
           let before : IsTrue (is_some (granule w (granule_of_request old))) = All-contains (λ (q : Open). IsTrue (is_some (granule w (granule_of_request q)))) w.outstanding.requests old is.requested has in
           let middle : IsTrue (is_some (mid (granule_of_request old))) = same_some o.requests (granule w) mid op c (granule_of_request old) ∙ before in
-          subst (λ (n : ℕ). IsTrue (is_some (granule now n))) (ap (λ a. a.addr / 8) (sym fields)) (noted_some mid (granule now) e.time e.kind t (granule_of_request old) middle)
+          subst (λ (n : ℕ). IsTrue (is_some (granule now n))) (ap (λ a. a.addr / 8) (sym fields)) (noted_some mid (granule now) w.shown e.time e.kind t (granule_of_request old) middle)
 
 -- a watch that took some events has taken one more
 pub taken_more : (e : Event) (ended : Option Operation) (old new : WatchValue) → Takes e ended old new → (events : List Event) → HasTaken events old → HasTaken (events ++ e ∷ []) new
@@ -181,17 +181,17 @@ taken_more e ended old new takes events (past, is) = (past ++ option_to_list end
 
 -- what it knows of a granule is so of the events that it took
 module _ (events : List Event) (w : WatchValue) (g : ℕ) where
-  pub since_told : (o : Option Followed) → HasTaken events w → o ≡ granule w g → option_and_then (λ (f : Followed). f.unknown_since) o ≡ unknown_since events g
-  since_told o (ended, is) here = by_case o (subst (IsGranuleOf events ended w.outstanding g) (sym here) (is.each g))
+  pub since_told : (o : Option FollowedValue) → HasTaken events w → o ≡ granule w g → option_and_then (λ (f : FollowedValue). f.unknown_since) o ≡ unknown_since events g
+  since_told o (ended, is) here = by_case o (subst (IsGranuleOf w.shown events ended w.outstanding g) (sym here) (is.each g))
     where
-      by_case : (x : Option Followed) → IsGranuleOf events ended w.outstanding g x → option_and_then (λ (f : Followed). f.unknown_since) x ≡ unknown_since events g
+      by_case : (x : Option FollowedValue) → IsGranuleOf w.shown events ended w.outstanding g x → option_and_then (λ (f : FollowedValue). f.unknown_since) x ≡ unknown_since events g
       by_case None untold = sym (unknown_none events g (2 ^ 64 - 1) untold.known)
       by_case (Some f) watched = watched.since
 
-  pub at_told : (time : ℕ) (o : Option Followed) → HasTaken events w → o ≡ granule w g → option_and_then (λ (f : Followed). unknown_by f.gaps.items f.unknown_since time) o ≡ unknown_at events g time
-  at_told time o (ended, is) here = by_case o (subst (IsGranuleOf events ended w.outstanding g) (sym here) (is.each g))
+  pub at_told : (time : ℕ) (o : Option FollowedValue) → HasTaken events w → o ≡ granule w g → option_and_then (λ (f : FollowedValue). unknown_by f.gaps f.unknown_since time) o ≡ unknown_at events g time
+  at_told time o (ended, is) here = by_case o (subst (IsGranuleOf w.shown events ended w.outstanding g) (sym here) (is.each g))
     where
-      by_case : (x : Option Followed) → IsGranuleOf events ended w.outstanding g x → option_and_then (λ (f : Followed). unknown_by f.gaps.items f.unknown_since time) x ≡ unknown_at events g time
+      by_case : (x : Option FollowedValue) → IsGranuleOf w.shown events ended w.outstanding g x → option_and_then (λ (f : FollowedValue). unknown_by f.gaps f.unknown_since time) x ≡ unknown_at events g time
       by_case None untold = sym (unknown_none events g time untold.known)
       by_case (Some f) watched = watched.gaps time
 
@@ -208,10 +208,10 @@ covered_again events w e told (ended, has) none is = by_case (granule w told.gra
     fits = takes_word e.time told.granule (granule w told.granule) (list_any (λ p. granule_of_request p == told.granule) w.outstanding.requests)
         (subst (λ (k : EventKind). granule_fault w e.time k ≡ None) is (no_fault (granule_fault w e.time e.kind) (option_map as_watch_fault (outstanding_fault w.outstanding e)) none))
 
-    by_case : (x : Option Followed) → granule w told.granule ≡ x → IsGranuleOf events ended w.outstanding told.granule x → TakesWord e.time x
+    by_case : (x : Option FollowedValue) → granule w told.granule ≡ x → IsGranuleOf w.shown events ended w.outstanding told.granule x → TakesWord e.time x
         → list_any (λ (y : Event). covers told.granule y.kind) events ≡ is_some (unknown_in w told.granule)
-    by_case None here untold takes = untold.known ∙ sym (ap (λ (o : Option Followed). is_some (option_and_then (λ (f : Followed). f.unknown_since) o)) here)
+    by_case None here untold takes = untold.known ∙ sym (ap (λ (o : Option FollowedValue). is_some (option_and_then (λ (f : FollowedValue). f.unknown_since) o)) here)
     by_case (Some f) here watched takes =
         let some : is_some f.unknown_since ≡ true = takes.0 in
         unknown_covered events told.granule (2 ^ 64 - 1) (ap is_some (sym watched.since) ∙ some)
-        ∙ sym (ap (λ (o : Option Followed). is_some (option_and_then (λ (g : Followed). g.unknown_since) o)) here ∙ some)
+        ∙ sym (ap (λ (o : Option FollowedValue). is_some (option_and_then (λ (g : FollowedValue). g.unknown_since) o)) here ∙ some)

@@ -30,7 +30,7 @@ use Rattle.chi_watch.specs.WordsTold.{WordAt, final_words, granule_word, opening
 use Rattle.chi_watch.proofs.Among.{all_traced, judged_moved, writes_are}
 use Rattle.chi_watch.specs.Endings.{judged_word}
 use Rattle.chi_events.specs.Granules.{IsQuiet, granule_of_request}
-use Rattle.chi_watch.specs.declared.followed.Followed.{Followed}
+use Rattle.chi_watch.specs.Followed.{FollowedValue}
 use Rattle.chi_watch.proofs.JudgedParts.{judged_traced}
 
 -- a word that is told has eight bytes
@@ -122,7 +122,7 @@ module _ (law : OperationsAreTold) (events : List Event) (ended : List Operation
       )
 
 -- the word at the end that is judged of a granule that is watched, and of one of which none was told
-pub word_is : (events : List Event) (g : ℕ) (f : Followed) → f.unknown_since ≡ unknown_since events g → f.final_word ≡ find_word (final_words events) g → judged_word f ≡ final_of events g
+pub word_is : (events : List Event) (g : ℕ) (f : FollowedValue) → f.unknown_since ≡ unknown_since events g → f.final_word ≡ find_word (final_words events) g → judged_word f ≡ final_of events g
 word_is events g f since final_word = ap₂ (λ (u : Option ℕ) (w : Option ℕ). cond (is_none u) w None) since final_word
 
 pub no_word : (events : List Event) (g : ℕ) → find_word (final_words events) g ≡ None → None ≡ final_of events g

@@ -18,7 +18,7 @@ use Rattle.chi_trace.specs.AtPlaces.{is_in}
 use Rattle.chi_trace.specs.Granules.{granule_of}
 use Rattle.chi_trace.specs.declared.operation.Operation.{Operation}
 use Rattle.chi_trace.specs.Words.{find_word}
-use Rattle.chi_watch.specs.declared.followed.Followed.{Followed}
+use Rattle.chi_watch.specs.Followed.{FollowedValue}
 use Rattle.chi_watch.specs.declared.followed.Gap.{Gap}
 use Rattle.chi_watch.specs.Changes.{IsToldWord}
 use Rattle.chi_watch.specs.Judged.{is_word_by, judged_part, tells_word, unknown_at, unknown_since}
@@ -118,16 +118,16 @@ module _ (events : List Event) (e : Event) (w : WordTold) (is : e.kind ≡ Word 
         (λ op early. same_before op.start (omega (arith, early, later))) (told_of events ended g) started))
         (write_part (write_at e.time w) (written e.time w)))
 
-    pub known_again : (o : OutstandingValue) (from : ℕ) (old new : Followed) → o.time ≡ e.time → find_word (final_words (events ++ e ∷ [])) g ≡ find_word (final_words events) g
-        → old.unknown_since ≡ Some from → old.last < e.time → IsToldWord from e.time w old new → IsWatched events ended o g old → IsWatched (events ++ e ∷ []) ended o g new
-    known_again o from old new at final_word unknown later t was = record {
+    pub known_again : (n : ℕ) (o : OutstandingValue) (from : ℕ) (old new : FollowedValue) → o.time ≡ e.time → find_word (final_words (events ++ e ∷ [])) g ≡ find_word (final_words events) g
+        → old.unknown_since ≡ Some from → old.last < e.time → IsToldWord from e.time w old new → IsWatched n events ended o g old → IsWatched n (events ++ e ∷ []) ended o g new
+    known_again n o from old new at final_word unknown later t was = record {
       since = t.since ∙ sym (known_then (2 ^ 64 - 1) (omega (arith, bound)));
       gaps = λ time.
           ap₂ (λ (gaps : List Gap) (since : Option ℕ). unknown_by gaps since time) t.gaps t.since
-          ∙ gaps_more old.gaps.items from old.last time was.gaps_by later (ap (λ (since : Option ℕ). unknown_by old.gaps.items since time) (sym unknown) ∙ was.gaps time);
+          ∙ gaps_more old.gaps from old.last time was.gaps_by later (ap (λ (since : Option ℕ). unknown_by old.gaps since time) (sym unknown) ∙ was.gaps time);
       gaps_by = subst (All (λ (gap : Gap). gap.until ≤ new.last)) (sym t.gaps)
-          (All-append (λ (gap : Gap). gap.until ≤ new.last) old.gaps.items (record { since = from; until = e.time } ∷ [])
-          (All-weaker (λ (gap : Gap). gap.until ≤ old.last) (λ (gap : Gap). gap.until ≤ new.last) (λ gap early. omega (arith, early, later, t.last)) old.gaps.items was.gaps_by)
+          (All-append (λ (gap : Gap). gap.until ≤ new.last) old.gaps (record { since = from; until = e.time } ∷ [])
+          (All-weaker (λ (gap : Gap). gap.until ≤ old.last) (λ (gap : Gap). gap.until ≤ new.last) (λ gap early. omega (arith, early, later, t.last)) old.gaps was.gaps_by)
           (All-cons (λ (gap : Gap). gap.until ≤ new.last) (record { since = from; until = e.time }) [] (omega (arith, t.last)) (All-nil (λ (gap : Gap). gap.until ≤ new.last))));
       told = was.told ++ writes;
       told_is = subst (λ (l : List Operation). IsPermutation l (was.told ++ writes)) (sym (parts_more from old.last some was.started later))
@@ -146,7 +146,7 @@ module _ (events : List Event) (e : Event) (w : WordTold) (is : e.kind ≡ Word 
       latest = let by = t.written.latest (omega (arith, was.latest, at)) (omega (arith, was.past, at)) in omega (arith, by, at);
       past = omega (arith, t.written.horizon, was.past);
       horizon = subst (StartsBy o.requests g) (sym t.written.horizon) was.horizon;
-      shown = t.written.shown ∙ was.shown;
+      shown_is = t.written.shown ∙ was.shown_is;
       final_word = t.final_word ∙ (was.final_word ∙ sym final_word);
     }
       where

@@ -1,9 +1,11 @@
 pub mod WordsTold
 pub mod Judged
+pub mod Kept
 pub mod Changes
 pub mod Counts
 pub mod Endings
 pub mod Faults
+pub mod Followed
 pub mod ListedAs
 pub mod Quiet
 pub mod Reaching

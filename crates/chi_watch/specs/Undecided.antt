@@ -9,7 +9,7 @@ use Rattle.chi_trace.specs.declared.operation.Operation.{Operation}
 use Rattle.chi_trace.specs.Words.{word_or_zero}
 use Rattle.chi_watch.specs.Judged.{judged}
 use Rattle.chi_watch.specs.WordsTold.{openings}
-use Rattle.chi_watch.specs.declared.followed.Followed.{Followed}
+use Rattle.chi_watch.specs.Followed.{FollowedValue}
 use Rattle.chi_watch.specs.declared.undecided.UndecidedAtEnd.{UndecidedAtEnd}
 
 -- the granules that are not decided
@@ -17,7 +17,7 @@ abbrev pub undecided_of : List UndecidedAtEnd → List ℕ
 undecided_of undecided = map (λ u. u.granule) undecided
 
 -- the granule is watched, and its judge has not stopped
-abbrev pub GoesOnAt : Option Followed → Type 0
+abbrev pub GoesOnAt : Option FollowedValue → Type 0
 GoesOnAt None = ⊥
 GoesOnAt (Some f) = f.judge.is_stopped ≡ false
 
@@ -30,10 +30,10 @@ abbrev pub AreExplainedAsFar : {P : Type 0} → (P → ℕ → Type 0) → P →
 AreExplainedAsFar states old new budget r found = (trace : List Operation) (g w : ℕ) → IsJudgeOf trace g w r → IsAsFarUnless (GrewBy states old new budget) trace g w found
 
 -- so of a granule that is watched
-abbrev pub IsExplainedIn : (ℕ → Option Followed) → UndecidedAtEnd → Type 0
+abbrev pub IsExplainedIn : (ℕ → Option FollowedValue) → UndecidedAtEnd → Type 0
 IsExplainedIn granules u = IfSome (granules u.granule) (λ f. AreExplainedTo f.judge u.explained)
 
-abbrev pub IsAsFarIn : {P : Type 0} → (P → ℕ → Type 0) → P → P → ℕ → (ℕ → Option Followed) → UndecidedAtEnd → Type 0
+abbrev pub IsAsFarIn : {P : Type 0} → (P → ℕ → Type 0) → P → P → ℕ → (ℕ → Option FollowedValue) → UndecidedAtEnd → Type 0
 IsAsFarIn states old new budget granules u = IfSome (granules u.granule) (λ f. AreExplainedAsFar states old new budget f.judge u.explained)
 
 -- up to the time that is told, where one is, some order explains what is judged of the granule, from its word at the opening on

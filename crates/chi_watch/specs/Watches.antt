@@ -14,7 +14,7 @@ use Rattle.chi_judge.specs.Standings.{IsInexplicable}
 use Rattle.chi_trace.specs.AtPlaces.{is_in}
 use Rattle.chi_trace.specs.declared.operation.Operation.{Operation}
 use Rattle.chi_trace.specs.Words.{find_word, word_or_zero}
-use Rattle.chi_watch.specs.declared.followed.Followed.{Followed}
+use Rattle.chi_watch.specs.Followed.{FollowedValue}
 use Rattle.chi_watch.specs.declared.fault.WatchFault.{WatchFault}
 use Rattle.chi_watch.specs.declared.fault.WatchFault.TheVariants as fault
 use Rattle.chi_watch.specs.Faults.{as_watch_fault}
@@ -23,20 +23,21 @@ use Rattle.chi_watch.specs.Judged.{CanBeExplained, IsExplainedBy, is_known, judg
 use Rattle.chi_watch.specs.WordsTold.{covers, final_words, openings, times_told, writes_told}
 use Rattle.chi_watch.specs.declared.followed.Gap.{Gap}
 
--- the requests that are outstanding, each granule of which something was told, and how many operations had ended: 2^64 - 1 stands
--- for that many and more
+-- the requests that are outstanding, each granule of which something was told, how many operations had ended: 2^64 - 1 stands
+-- for that many and more; and how many are shown at most before one that is blamed
 pub record WatchValue : Type 0 where
   pub outstanding : OutstandingValue
-  pub granules : List (ℕ × Followed)
+  pub granules : List (ℕ × FollowedValue)
   pub ended : ℕ
+  pub shown : ℕ
 
 -- what is known of a granule
-abbrev pub granule : WatchValue → ℕ → Option Followed
+abbrev pub granule : WatchValue → ℕ → Option FollowedValue
 granule w g = lookup (is_at (nat_cmp g)) w.granules
 
 -- from which time on something that is not told may have written to the granule, as far as is known
 abbrev pub unknown_in : WatchValue → ℕ → Option ℕ
-unknown_in w g = option_and_then (λ (f : Followed). f.unknown_since) (granule w g)
+unknown_in w g = option_and_then (λ (f : FollowedValue). f.unknown_since) (granule w g)
 
 -- from which time on that may be so, for an operation that starts at a time: from where the first gap begins that ends later, or now
 abbrev pub unknown_by : List Gap → Option ℕ → ℕ → Option ℕ
@@ -57,10 +58,10 @@ last_time events ended g = max (latest_of (map (λ op. op.end) (filter (is_in g)
 
 -- A granule that is watched: its judge was told its operations that had ended, from its word at the opening on, as far as all that
 -- wrote to it is told, and the writes that stand for words. All these started by its last time.
-pub record IsWatched (events : List Event) (ended : List Operation) (o : OutstandingValue) (g : ℕ) (f : Followed) : Type 0 where
+pub record IsWatched (shown : ℕ) (events : List Event) (ended : List Operation) (o : OutstandingValue) (g : ℕ) (f : FollowedValue) : Type 0 where
   pub since : f.unknown_since ≡ unknown_since events g
-  pub gaps : (time : ℕ) → unknown_by f.gaps.items f.unknown_since time ≡ unknown_at events g time
-  pub gaps_by : All (λ gap. gap.until ≤ f.last) f.gaps.items
+  pub gaps : (time : ℕ) → unknown_by f.gaps f.unknown_since time ≡ unknown_at events g time
+  pub gaps_by : All (λ gap. gap.until ≤ f.last) f.gaps
   pub told : List Operation
   pub told_is : IsPermutation (flat_map (judged_part events) (told_of events ended g)) told
   pub keeps : Keeps (word_or_zero (openings events) g ∷ []) told o.time f.judge
@@ -70,7 +71,7 @@ pub record IsWatched (events : List Event) (ended : List Operation) (o : Outstan
   pub latest : f.judge.latest ≤ o.time
   pub past : f.judge.horizon ≤ o.time
   pub horizon : StartsBy o.requests g f.judge.horizon
-  pub shown : f.judge.shown ≡ 16
+  pub shown_is : f.judge.shown ≡ shown
   pub final_word : f.final_word ≡ find_word (final_words events) g
 
 -- nothing was told of the granule
@@ -81,15 +82,15 @@ pub record IsUntold (events : List Event) (ended : List Operation) (g : ℕ) : T
   pub opening : find_word (openings events) g ≡ None
   pub final_word : find_word (final_words events) g ≡ None
 
-abbrev pub IsGranuleOf : List Event → List Operation → OutstandingValue → ℕ → Option Followed → Type 0
-IsGranuleOf events ended o g None = IsUntold events ended g
-IsGranuleOf events ended o g (Some f) = IsWatched events ended o g f
+abbrev pub IsGranuleOf : ℕ → List Event → List Operation → OutstandingValue → ℕ → Option FollowedValue → Type 0
+IsGranuleOf shown events ended o g None = IsUntold events ended g
+IsGranuleOf shown events ended o g (Some f) = IsWatched shown events ended o g f
 
 -- the watch took these events, by which these operations had ended
 pub record Watches (events : List Event) (ended : List Operation) (w : WatchValue) : Type 0 where
   pub tells : Tells events ended w.outstanding
   pub time : w.outstanding.time < 2 ^ 64
-  pub each : (g : ℕ) → IsGranuleOf events ended w.outstanding g (granule w g)
+  pub each : (g : ℕ) → IsGranuleOf w.shown events ended w.outstanding g (granule w g)
   pub requested : All (λ p. IsTrue (is_some (granule w (granule_of_request p)))) w.outstanding.requests
   pub count : w.ended ≡ min (length ended) (2 ^ 64 - 1)
 
@@ -108,7 +109,7 @@ pub record IsUnexplained (events : List Event) (g : ℕ) : Type 0 where
   pub whole : (order : List ℕ) → IsExplainedBy events order → ⊥
 
 -- what was told of the granule is known not to be explained
-abbrev pub HasStopped : Option Followed → Type 0
+abbrev pub HasStopped : Option FollowedValue → Type 0
 HasStopped None = ⊥
 HasStopped (Some f) = IsTrue f.judge.is_stopped
 
@@ -118,14 +119,14 @@ CanBeJudged w g = (list_any (λ p. granule_of_request p == g) w.outstanding.requ
 
 -- All that wrote to the granule is told, and no order explains what was told of it.
 pub record IsFound (w : WatchValue) (g : ℕ) : Type 0 where
-  pub followed : Followed
+  pub followed : FollowedValue
   pub is : granule w g ≡ Some followed
   pub since : followed.unknown_since ≡ None
   pub judged : CanBeJudged w g
   pub none : IsInexplicable followed.judge followed.final_word
 
 -- why the granules do not take an event
-abbrev pub has_final_word : Option Followed → Bool
+abbrev pub has_final_word : Option FollowedValue → Bool
 has_final_word None = false
 has_final_word (Some f) = is_some f.final_word
 
@@ -134,13 +135,13 @@ final_fault find_word outstanding = if find_word then Some fault.FinalTwice else
 
 -- Once something was told of a granule its word is told only where that is not known, and no request of it is outstanding or ended at
 -- that time.
-abbrev pub later_word_fault : ℕ → Followed → Bool → Option WatchFault
+abbrev pub later_word_fault : ℕ → FollowedValue → Bool → Option WatchFault
 later_word_fault time f outstanding =
     if is_some f.final_word || is_none f.unknown_since then Some fault.WordLate
     else if outstanding || nat_le time f.last then Some fault.WordEarly
     else None
 
-abbrev pub word_fault : ℕ → Option Followed → Bool → Option WatchFault
+abbrev pub word_fault : ℕ → Option FollowedValue → Bool → Option WatchFault
 word_fault time None outstanding = None
 word_fault time (Some f) outstanding = later_word_fault time f outstanding
 

@@ -24,7 +24,7 @@ impl Watch {
         ensures { result ≡ has_final_word (granule_of self.now granule) }
     {
         match self.granules.get(&granule) {
-            Some(followed) => followed.final_word.is_some(),
+            Some(kept) => kept.final_word().is_some(),
             None => false,
         }
     }
@@ -34,13 +34,13 @@ impl Watch {
         ensures fits { IfOk result (λ _. word_fault time (granule_of self.now granule) (list_any (λ p. granule_of_request p == granule) self.now.outstanding.requests) ≡ None) }
         ensures fault { IfErr result (λ fault. word_fault time (granule_of self.now granule) (list_any (λ p. granule_of_request p == granule) self.now.outstanding.requests) ≡ Some fault) }
     {
-        let Some(followed) = self.granules.get(&granule) else {
+        let Some(kept) = self.granules.get(&granule) else {
             return Ok(());
         };
-        if followed.final_word.is_some() || followed.unknown_since.is_none() {
+        if kept.final_word().is_some() || kept.unknown_since().is_none() {
             return Err(WatchFault::WordLate);
         }
-        if self.is_open(granule) || time <= followed.last {
+        if self.is_open(granule) || time <= kept.last() {
             return Err(WatchFault::WordEarly);
         }
         Ok(())

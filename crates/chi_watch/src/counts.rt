@@ -5,7 +5,7 @@ ghost use Rattle.chi_events.specs.declared.event.Event.{Event};
 ghost use Rattle.chi_watch.specs.Counts.{AreCounted, unjudged};
 ghost use Rattle.chi_watch.specs.Watches.{HasTaken};
 
-use crate::followed::Followed;
+use crate::kept::KeptGranule;
 use crate::watch::Watch;
 use std::collections::BTreeMap;
 
@@ -30,12 +30,12 @@ fn with_unjudged(count: u64, is_unjudged: bool) -> u64
 }
 
 /// How many of the granules are not judged to the end.
-fn count_unjudged(granules: &BTreeMap<u64, Followed>) -> u64
+fn count_unjudged(granules: &BTreeMap<u64, KeptGranule>) -> u64
     ensures { result ≡ min (count_by (λ e. is_some e.1.unknown_since) granules.now.entries) (2 ^ 64 - 1) }
 {
     let mut count = 0;
-    for (_, followed) in granules {
-        count = with_unjudged(count, followed.unknown_since.is_some());
+    for (_, kept) in granules {
+        count = with_unjudged(count, kept.unknown_since().is_some());
     }
     count
 }

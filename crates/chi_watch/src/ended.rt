@@ -8,8 +8,8 @@ ghost use Rattle.chi_watch.specs.Changes.{IsClosedBy};
 ghost use Rattle.chi_events.specs.Granules.{StartsBy};
 ghost use Rattle.chi_search.specs.Looks.{Grew, for_verdict};
 
-use crate::followed::Followed;
 use crate::granules::close;
+use crate::kept::KeptGranule;
 use chi_events::Outstanding;
 use chi_search::Progress;
 use chi_trace::Operation;
@@ -32,7 +32,7 @@ fn horizon_of(outstanding: &Outstanding, op: &Operation, looks: bool) -> u64
 /// Tells the operation that ended of its granule, while these requests are outstanding.
 pub(crate) fn close_ended<P: Progress>(
     alloc: Global,
-    granules: &mut BTreeMap<u64, Followed>,
+    granules: &mut BTreeMap<u64, KeptGranule>,
     outstanding: &Outstanding,
     ended: &Option<Operation>,
     looks: bool,

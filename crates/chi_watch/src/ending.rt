@@ -14,9 +14,9 @@ ghost use Rattle.chi_watch.specs.Reaching.{IsFoundAtEnd, IsFoundIn, IsReachedBy,
 ghost use Rattle.chi_watch.specs.Undecided.{IsExplainedAsFar, IsExplainedTo, states_for, undecided_of};
 ghost use Rattle.chi_watch.specs.Watches.{HasTaken};
 
-use crate::followed::{Followed, judged_word};
 use crate::granules::close;
 use crate::judge_all::judge_all;
+use crate::kept::KeptGranule;
 use crate::reaching::reach_of;
 use crate::undecided::{UndecidedAtEnd, each_undecided};
 use crate::watch::Watch;
@@ -50,7 +50,7 @@ pub struct Ending {
 /// Tells each operation that is still open of its granule.
 fn close_open<P: Progress>(
     alloc: Global,
-    granules: &mut BTreeMap<u64, Followed>,
+    granules: &mut BTreeMap<u64, KeptGranule>,
     requests: &[Open],
     progress: &mut P,
 ) -> Result<(), AllocError>
@@ -68,7 +68,7 @@ fn close_open<P: Progress>(
 /// What is said of a granule that no order explains.
 fn found_at_end<P: Progress>(
     alloc: Global,
-    granules: &BTreeMap<u64, Followed>,
+    granules: &BTreeMap<u64, KeptGranule>,
     granule: u64,
     budget: u64,
     progress: &mut P,
@@ -78,7 +78,7 @@ fn found_at_end<P: Progress>(
     ensures undecided { IfOk result (IsReachedIn (P.looked for_verdict) progress.old progress.new budget (get nat_cmp granules.now)) }
     ensures looked { IfOk result (λ _. Grew (P.looked for_verdict) progress.old progress.new) }
 {
-    let Some(followed) = granules.get(&granule) else {
+    let Some(kept) = granules.get(&granule) else {
         return Ok(FoundAtEnd {
             granule,
             final_word: None,
@@ -86,10 +86,10 @@ fn found_at_end<P: Progress>(
             cut_short: None,
         });
     };
-    let found = reach_of(alloc, followed, budget, progress)?;
+    let found = reach_of(alloc, kept, budget, progress)?;
     Ok(FoundAtEnd {
         granule,
-        final_word: judged_word(followed),
+        final_word: kept.judged_word(),
         reach: found.reach,
         cut_short: found.cut_short,
     })
@@ -98,7 +98,7 @@ fn found_at_end<P: Progress>(
 /// What is said of each granule that no order explains.
 fn each_found_at_end<P: Progress>(
     alloc: Global,
-    granules: &BTreeMap<u64, Followed>,
+    granules: &BTreeMap<u64, KeptGranule>,
     unexplained: &[u64],
     budget: u64,
     progress: &mut P,
@@ -151,7 +151,7 @@ impl Watch {
     ) -> Result<Ending, AllocError>
         ensures explained { IfOk result (λ ending. ending.unexplained.items ≡ [] → ending.undecided.items ≡ [] → (events : List Event) → HasTaken events self → IsExplained events) }
         ensures each { IfOk result (λ ending. (g : ℕ) (events : List Event) → HasTaken events self → CanBeExplained events g ⊎ IsListed g (granules_of ending.unexplained.items) (undecided_of ending.undecided.items)) }
-        ensures unexplained { IfOk result (λ ending. All (λ found. (events : List Event) → HasTaken events self → IsFoundAtEnd events found) ending.unexplained.items) }
+        ensures unexplained { IfOk result (λ ending. All (λ found. (events : List Event) → HasTaken events self → IsFoundAtEnd self.shown events found) ending.unexplained.items) }
         ensures earliest { IfOk result (λ ending. IsNonDecreasingBy (λ f. stop_time f.reach) ending.unexplained.items) }
         ensures reached { IfOk result (λ ending. All (λ found. (events : List Event) → HasTaken events self → IsReachedBy (P.looked for_verdict) progress.old progress.new budget found.reach found.cut_short) ending.unexplained.items) }
         ensures undecided { IfOk result (λ ending. All (λ _. GrewBy (P.looked for_verdict) progress.old progress.new budget) ending.undecided.items) }

@@ -4,11 +4,13 @@ ghost use Rattle.std.specs.Prelude.{◌≡◌, ℕ, ◌+◌, ◌^◌, ◌≤◌,
 ghost use Rattle.std.specs.BTreeMap.{get};
 ghost use Rattle.std.specs.Ordering.{nat_cmp};
 ghost use Rattle.chi_trace.specs.Granules.{granule_of};
-ghost use Rattle.chi_watch.specs.Changes.{HasOneMore, GranuleBecomesKnown, GranuleBecomesUnknown, IsMarked, IsTouched, IsTouchedAndMarked};
+ghost use Rattle.chi_watch.specs.Changes.{HasOneMore, GranuleBecomesKnown, GranuleBecomesUnknown, GranuleIsSettled, IsMarked, IsTouched, IsTouchedAndMarked};
 ghost use Rattle.chi_search.specs.Looks.{Grew, for_verdict};
-ghost use Rattle.chi_watch.specs.declared.followed.Followed.{Followed};
+ghost use Rattle.chi_watch.specs.Followed.{FollowedValue};
 
-use crate::followed::{Followed, tell, tell_unknown, tell_word, untouched};
+use crate::followed::untouched;
+use crate::kept::KeptGranule;
+use crate::telling::{settle, tell, tell_final, tell_unknown, tell_word};
 use chi_events::WordTold;
 use chi_search::Progress;
 use chi_trace::Operation;
@@ -18,24 +20,26 @@ use std::collections::BTreeMap;
 /// Watches a granule, from this word on, where it was not watched before.
 pub(crate) fn touch(
     alloc: Global,
-    granules: &mut BTreeMap<u64, Followed>,
+    granules: &mut BTreeMap<u64, KeptGranule>,
     granule: u64,
     word: u64,
+    shown: usize,
 ) -> Result<(), AllocError>
-    ensures { IfOk result (λ _. IsTouched (get nat_cmp granules.old) (get nat_cmp granules.new) granule word) }
+    ensures { IfOk result (λ _. IsTouched shown (get nat_cmp granules.old) (get nat_cmp granules.new) granule word) }
 {
     if granules.contains_key(&granule) {
         return Ok(());
     }
-    let followed = untouched(alloc, word)?;
-    granules.insert(granule, followed)?;
+    let followed = Box::new(alloc, untouched(alloc, word, shown)?)?;
+    let kept = KeptGranule::keep(alloc, followed)?;
+    granules.insert(granule, kept)?;
     Ok(())
 }
 
 /// Tells an operation that has ended of its granule.
 pub(crate) fn close<P: Progress>(
     alloc: Global,
-    granules: &mut BTreeMap<u64, Followed>,
+    granules: &mut BTreeMap<u64, KeptGranule>,
     op: &Operation,
     horizon: u64,
     progress: &mut P,
@@ -45,7 +49,7 @@ pub(crate) fn close<P: Progress>(
 {
     let granule = op.granule();
     match granules.get_mut(&granule) {
-        Some(followed) => tell(alloc, followed, op, horizon, progress),
+        Some(kept) => tell(alloc, kept, op, horizon, progress),
         None => Ok(()),
     }
 }
@@ -53,55 +57,80 @@ pub(crate) fn close<P: Progress>(
 /// Tells the word that a granule holds from this time on: at the opening, or where something that is not told may have written to it.
 pub(crate) fn tell_word_at(
     alloc: Global,
-    granules: &mut BTreeMap<u64, Followed>,
+    granules: &mut BTreeMap<u64, KeptGranule>,
     time: u64,
     told: &WordTold,
+    shown: usize,
 ) -> Result<(), AllocError>
-    ensures { IfOk result (λ _. GranuleBecomesKnown time told.now (get nat_cmp granules.old) (get nat_cmp granules.new)) }
+    ensures { IfOk result (λ _. GranuleBecomesKnown shown time told.now (get nat_cmp granules.old) (get nat_cmp granules.new)) }
 {
-    touch(alloc, granules, told.granule, told.word)?;
+    touch(alloc, granules, told.granule, told.word, shown)?;
     match granules.get_mut(&told.granule) {
-        Some(followed) => tell_word(followed, time, told),
+        Some(kept) => tell_word(alloc, kept, time, told),
         None => Ok(()),
     }
 }
 
 /// Notes the word after a granule's last request.
-fn set_last(granules: &mut BTreeMap<u64, Followed>, granule: u64, word: u64)
+fn set_last(
+    alloc: Global,
+    granules: &mut BTreeMap<u64, KeptGranule>,
+    granule: u64,
+    word: u64,
+) -> Result<(), AllocError>
     requires watched { IsTrue (is_some (get nat_cmp granules.now granule)) }
-    ensures { IsMarked granule (λ f. record f { final_word = Some word }) (get nat_cmp granules.old) (get nat_cmp granules.new) }
+    ensures { IfOk result (λ _. IsMarked granule (λ f. record f { final_word = Some word }) (get nat_cmp granules.old) (get nat_cmp granules.new)) }
 {
-    if let Some(followed) = granules.get_mut(&granule) {
-        followed.final_word = Some(word);
+    match granules.get_mut(&granule) {
+        Some(kept) => tell_final(alloc, kept, word),
+        None => Ok(()),
     }
 }
 
 /// Tells the word after a granule's last request.
 pub(crate) fn tell_last(
     alloc: Global,
-    granules: &mut BTreeMap<u64, Followed>,
+    granules: &mut BTreeMap<u64, KeptGranule>,
     granule: u64,
     word: u64,
+    shown: usize,
 ) -> Result<(), AllocError>
-    ensures { IfOk result (λ _. IsTouchedAndMarked granule (λ f. record f { final_word = Some word }) (get nat_cmp granules.old) (get nat_cmp granules.new)) }
+    ensures { IfOk result (λ _. IsTouchedAndMarked shown granule (λ f. record f { final_word = Some word }) (get nat_cmp granules.old) (get nat_cmp granules.new)) }
 {
-    touch(alloc, granules, granule, 0)?;
-    set_last(granules, granule, word);
-    Ok(())
+    touch(alloc, granules, granule, 0, shown)?;
+    set_last(alloc, granules, granule, word)
 }
 
 /// Tells that something that is not told may have written to a granule from this time on.
 pub(crate) fn tell_unknown_at(
     alloc: Global,
-    granules: &mut BTreeMap<u64, Followed>,
+    granules: &mut BTreeMap<u64, KeptGranule>,
     granule: u64,
     time: u64,
+    shown: usize,
 ) -> Result<(), AllocError>
-    ensures { IfOk result (λ _. GranuleBecomesUnknown granule time (get nat_cmp granules.old) (get nat_cmp granules.new)) }
+    ensures { IfOk result (λ _. GranuleBecomesUnknown shown granule time (get nat_cmp granules.old) (get nat_cmp granules.new)) }
 {
-    touch(alloc, granules, granule, 0)?;
+    touch(alloc, granules, granule, 0, shown)?;
     match granules.get_mut(&granule) {
-        Some(followed) => tell_unknown(alloc, followed, time),
+        Some(kept) => tell_unknown(alloc, kept, time),
+        None => Ok(()),
+    }
+}
+
+/// Settles what was told of a granule, where it can. No operation to come starts before the horizon.
+pub(crate) fn settle_granule<P: Progress>(
+    alloc: Global,
+    granules: &mut BTreeMap<u64, KeptGranule>,
+    granule: u64,
+    horizon: u64,
+    progress: &mut P,
+) -> Result<(), AllocError>
+    ensures settled { IfOk result (λ _. GranuleIsSettled granule horizon (get nat_cmp granules.old) (get nat_cmp granules.new)) }
+    ensures looked { IfOk result (λ _. Grew (P.looked for_verdict) progress.old progress.new) }
+{
+    match granules.get_mut(&granule) {
+        Some(kept) => settle(alloc, kept, horizon, progress),
         None => Ok(()),
     }
 }

@@ -9,7 +9,7 @@ ghost use Rattle.chi_watch.specs.Endings.{IsExplainable, IsInexplicable, IsInexp
 ghost use Rattle.chi_watch.specs.ListedAs.{IsListedAs};
 ghost use Rattle.chi_watch.specs.Undecided.{GoesOnAt};
 
-use crate::followed::{Followed, judged_word};
+use crate::kept::KeptGranule;
 use chi_judge::Standing;
 use chi_search::Progress;
 use chi_trace::laws::granules_stand_alone;
@@ -38,7 +38,7 @@ fn list(listed: &mut Listed, granule: u64, standing: Standing) -> Result<(), All
 /// Judges each granule, as far as all that wrote to it is told.
 pub(crate) fn judge_all<P: Progress>(
     alloc: Global,
-    granules: &BTreeMap<u64, Followed>,
+    granules: &BTreeMap<u64, KeptGranule>,
     budget: u64,
     progress: &mut P,
 ) -> Result<Listed, AllocError>
@@ -53,10 +53,8 @@ pub(crate) fn judge_all<P: Progress>(
         unexplained: Vec::new(alloc),
         undecided: Vec::new(alloc),
     };
-    for (granule, followed) in granules {
-        let standing = followed
-            .judge
-            .check(alloc, judged_word(followed), budget, progress)?;
+    for (granule, kept) in granules {
+        let standing = kept.check(alloc, kept.judged_word(), budget, progress)?;
         list(&mut listed, *granule, standing)?;
     }
     Ok(listed)

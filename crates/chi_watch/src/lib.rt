@@ -2,6 +2,7 @@
 #![tactic(auto)]
 
 mod admitting;
+mod answering;
 mod counts;
 mod ended;
 mod ending;
@@ -9,8 +10,11 @@ mod fault;
 mod followed;
 mod granules;
 mod judge_all;
+mod kept;
 mod reaching;
 mod recording;
+mod settling;
+mod telling;
 mod undecided;
 mod update_granules;
 mod watch;

@@ -7,7 +7,7 @@ ghost use Rattle.chi_judge.specs.Reaches.{IfUndecided};
 ghost use Rattle.chi_watch.specs.Reaching.{IsOfSomeTrace, IsReach, IsReachedBy, ReachesBy};
 ghost use Rattle.chi_watch.specs.Watches.{CanBeJudged, HasTaken, IsUnexplained};
 
-use crate::followed::Followed;
+use crate::kept::KeptGranule;
 use crate::watch::Watch;
 use chi_events::laws::operations_are_told;
 use chi_judge::Reach;
@@ -22,33 +22,19 @@ pub struct FoundReach {
     pub cut_short: Option<u64>,
 }
 
-/// How far the operations that were told of a granule can be explained.
-fn told_reach<P: Progress>(
-    alloc: Global,
-    followed: &Followed,
-    budget: u64,
-    progress: &mut P,
-) -> Result<Reach, AllocError>
-    ensures right { IfOk result (ReachesBy followed.now.judge) }
-    ensures undecided { IfOk result (λ reach. IfUndecided reach (IsOfSomeTrace followed.now.judge → LookedAtLeast P.looked progress.old progress.new budget)) }
-    ensures looked { IfOk result (λ _. LookedSome P.looked progress.old progress.new) }
-{
-    followed.judge.reach(alloc, budget, progress)
-}
-
-/// The same, which follows a verdict.
+/// How far the operations that were told of a granule can be explained, which follows a verdict.
 pub(crate) fn reach_of<P: Progress>(
     alloc: Global,
-    followed: &Followed,
+    kept: &KeptGranule,
     budget: u64,
     progress: &mut P,
 ) -> Result<FoundReach, AllocError>
-    ensures right { IfOk result (λ found. ReachesBy followed.now.judge found.reach) }
-    ensures undecided { IfOk result (λ found. IsOfSomeTrace followed.now.judge → IsReachedBy (P.looked for_verdict) progress.old progress.new budget found.reach found.cut_short) }
+    ensures right { IfOk result (λ found. ReachesBy kept.now.judge found.reach) }
+    ensures undecided { IfOk result (λ found. IsOfSomeTrace kept.now.judge → IsReachedBy (P.looked for_verdict) progress.old progress.new budget found.reach found.cut_short) }
     ensures looked { IfOk result (λ _. Grew (P.looked for_verdict) progress.old progress.new) }
 {
     progress.after_verdict(0);
-    let reach = told_reach(alloc, followed, budget, progress);
+    let reach = kept.reach(alloc, budget, progress);
     let cut_short = progress.cut_short();
     progress.before_verdict();
     Ok(FoundReach {
@@ -71,25 +57,25 @@ impl Watch {
         budget: u64,
         progress: &mut P,
     ) -> Result<FoundReach, AllocError>
-        ensures right { IfOk result (λ found. (events : List Event) → HasTaken events self.now → IsReach events granule found.reach) }
+        ensures right { IfOk result (λ found. (events : List Event) → HasTaken events self.now → IsReach self.now.shown events granule found.reach) }
         ensures undecided { IfOk result (λ found. CanBeJudged self.now granule → (events : List Event) → HasTaken events self.now → IsUnexplained events granule → IsReachedBy (P.looked for_verdict) progress.old progress.new budget found.reach found.cut_short) }
         ensures looked { IfOk result (λ _. Grew (P.looked for_verdict) progress.old progress.new) }
     {
         operations_are_told();
         granules_stand_alone();
         let _count = self.outstanding.count();
-        let Some(followed) = self.granules.get(&granule) else {
+        let Some(kept) = self.granules.get(&granule) else {
             return Ok(FoundReach {
                 reach: Reach::Undecided,
                 cut_short: None,
             });
         };
-        if followed.unknown_since.is_some() || !self.can_be_judged(followed, granule) {
+        if kept.unknown_since().is_some() || !self.can_be_judged(kept, granule) {
             return Ok(FoundReach {
                 reach: Reach::Undecided,
                 cut_short: None,
             });
         }
-        reach_of(alloc, followed, budget, progress)
+        reach_of(alloc, kept, budget, progress)
     }
 }

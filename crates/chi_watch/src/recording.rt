@@ -6,7 +6,6 @@ ghost use Rattle.chi_watch.specs.Judged.{unknown_at, unknown_since};
 ghost use Rattle.chi_watch.specs.Watches.{HasTaken, Takes, fault_of, unknown_in};
 
 use crate::fault::WatchFault;
-use crate::followed::unknown_by;
 use crate::watch::Watch;
 use chi_events::{Event, Outstanding};
 use chi_search::NoProgress;
@@ -22,6 +21,7 @@ impl Watch {
     /// ```
     pub fn record(&mut self, alloc: Global, event: &Event) -> Result<Option<Operation>, WatchFault>
         ensures taken { IfOk result (λ ended. Takes event.now ended self.old self.new) }
+        ensures shown { IfOk result (λ _. self.new.shown ≡ self.old.shown) }
         ensures fits { IfOk result (λ _. fault_of self.old event.now ≡ None) }
         ensures fault { IfErr result (λ fault. fault ≢ WatchFault.Memory → fault_of self.old event.now ≡ Some fault) }
     {
@@ -38,7 +38,7 @@ impl Watch {
         ensures told { (events : List Event) → HasTaken events self.now → result ≡ unknown_since events granule }
     {
         match self.granules.get(&granule) {
-            Some(followed) => followed.unknown_since,
+            Some(kept) => kept.unknown_since(),
             None => None,
         }
     }
@@ -52,7 +52,7 @@ impl Watch {
         ensures { (events : List Event) → HasTaken events self.now → result ≡ unknown_at events granule time }
     {
         match self.granules.get(&granule) {
-            Some(followed) => unknown_by(followed, time),
+            Some(kept) => kept.unknown_by(time),
             None => None,
         }
     }

@@ -6,7 +6,7 @@ ghost use Rattle.std.specs.Ordering.{nat_cmp};
 ghost use Rattle.chi_search.specs.Looks.{Grew, for_verdict};
 ghost use Rattle.chi_watch.specs.Undecided.{GoesOnAt, IsAsFarIn, IsExplainedIn, undecided_of};
 
-use crate::followed::Followed;
+use crate::kept::KeptGranule;
 use chi_search::Progress;
 use std::alloc::{AllocError, Global};
 use std::collections::BTreeMap;
@@ -22,7 +22,7 @@ pub struct UndecidedAtEnd {
 /// What is said of a granule that is not decided. `budget` is how many states are looked at for each time that is tried.
 fn undecided_at_end<P: Progress>(
     alloc: Global,
-    granules: &BTreeMap<u64, Followed>,
+    granules: &BTreeMap<u64, KeptGranule>,
     granule: u64,
     budget: u64,
     progress: &mut P,
@@ -33,20 +33,20 @@ fn undecided_at_end<P: Progress>(
     ensures far { IfOk result (IsAsFarIn (P.looked for_verdict) progress.old progress.new budget (get nat_cmp granules.now)) }
     ensures looked { IfOk result (λ _. Grew (P.looked for_verdict) progress.old progress.new) }
 {
-    let Some(followed) = granules.get(&granule) else {
+    let Some(kept) = granules.get(&granule) else {
         return Ok(UndecidedAtEnd {
             granule,
             explained: None,
         });
     };
-    let explained = followed.judge.explained_to(alloc, budget, progress)?;
+    let explained = kept.explained_to(alloc, budget, progress)?;
     Ok(UndecidedAtEnd { granule, explained })
 }
 
 /// What is said of each granule that is not decided.
 pub(crate) fn each_undecided<P: Progress>(
     alloc: Global,
-    granules: &BTreeMap<u64, Followed>,
+    granules: &BTreeMap<u64, KeptGranule>,
     undecided: &[u64],
     budget: u64,
     progress: &mut P,

@@ -12,7 +12,8 @@ ghost use Rattle.chi_watch.specs.Watches.{CanBeJudged, HasTaken, IsFound, IsUnex
 
 use crate::ended::close_ended;
 use crate::fault::WatchFault;
-use crate::followed::Followed;
+use crate::kept::KeptGranule;
+use crate::settling::QuietGranule;
 use crate::update_granules::update_granules;
 use chi_events::laws::operations_are_told;
 use chi_events::{Event, EventKind, Outstanding};
@@ -21,13 +22,13 @@ use chi_search::Progress;
 use chi_trace::Operation;
 use chi_trace::laws::{granules_stand_alone, parts_explain};
 use std::alloc::{AllocError, Global};
-use std::collections::BTreeMap;
+use std::collections::{BTreeMap, VecDeque};
 use std::marker::Model;
 
 /// The granules that events tell of, each followed as far as what is told of it allows.
 ///
 /// ```
-/// let mut watch = Watch::new(alloc)?;
+/// let mut watch = Watch::new(alloc, 16)?;
 /// for event in &events {
 ///     if let Some(granule) = watch.take(alloc, event, 1_000_000, &mut NoProgress)? {
 ///         show(granule);
@@ -37,8 +38,10 @@ use std::marker::Model;
 #[derive(Drop)]
 pub struct Watch {
     pub(crate) outstanding: Outstanding,
-    pub(crate) granules: BTreeMap<u64, Followed>,
+    pub(crate) granules: BTreeMap<u64, KeptGranule>,
     pub(crate) ended: u64,
+    pub(crate) shown: usize,
+    pub(crate) quiet: VecDeque<QuietGranule>,
 }
 
 impl Model for Watch {
@@ -46,7 +49,7 @@ impl Model for Watch {
 
     ghost Value = { WatchValue };
 
-    ghost view = { λ w. record { outstanding = w.outstanding; granules = w.granules.entries; ended = w.ended } };
+    ghost view = { λ w. record { outstanding = w.outstanding; granules = w.granules.entries; ended = w.ended; shown = w.shown } };
 }
 
 /// So many operations, and one more where one has ended.
@@ -60,18 +63,21 @@ fn one_more(count: u64, ended: &Option<Operation>) -> u64
 }
 
 impl Watch {
-    /// Nothing is watched, before any event.
+    /// Nothing is watched, before any event. So many operations of a granule are shown at most before one that is blamed.
     ///
     /// ```
-    /// let watch = Watch::new(alloc)?;
+    /// let watch = Watch::new(alloc, 16)?;
     /// ```
-    pub fn new(alloc: Global) -> Result<Watch, AllocError>
-        ensures { IfOk result (Watches [] []) }
+    pub fn new(alloc: Global, shown: usize) -> Result<Watch, AllocError>
+        ensures watches { IfOk result (Watches [] []) }
+        ensures shown { IfOk result (λ watch. watch.shown ≡ shown) }
     {
         Ok(Watch {
             outstanding: Outstanding::new(alloc)?,
             granules: BTreeMap::new(alloc),
             ended: 0,
+            shown,
+            quiet: VecDeque::new(alloc),
         })
     }
 
@@ -83,10 +89,10 @@ impl Watch {
     }
 
     /// Whether no request of the granule is outstanding, or what was told of it is known not to be explained.
-    pub(crate) fn can_be_judged(&self, followed: &Followed, granule: u64) -> bool
-        ensures { result ≡ (not (list_any (λ p. granule_of_request p == granule) self.now.outstanding.requests) || followed.now.judge.is_stopped) }
+    pub(crate) fn can_be_judged(&self, kept: &KeptGranule, granule: u64) -> bool
+        ensures { result ≡ (not (list_any (λ p. granule_of_request p == granule) self.now.outstanding.requests) || kept.now.judge.is_stopped) }
     {
-        !self.is_open(granule) || followed.judge.is_stopped()
+        !self.is_open(granule) || kept.is_stopped()
     }
 
     /// The granule of the outstanding request that an event is about, or of the word that it tells, where something that is not told
@@ -114,16 +120,13 @@ impl Watch {
         ensures none { IfOk result (λ is. is ≡ false → list_any (λ p. granule_of_request p == granule) self.now.outstanding.requests ≡ false → IfSome (granule_of self.now granule) (λ f. f.unknown_since ≡ None → IsExplainable f ⊎ GrewBy (P.looked for_verdict) progress.old progress.new budget)) }
         ensures looked { IfOk result (λ _. Grew (P.looked for_verdict) progress.old progress.new) }
     {
-        let Some(followed) = self.granules.get(&granule) else {
+        let Some(kept) = self.granules.get(&granule) else {
             return Ok(false);
         };
-        if followed.unknown_since.is_some() || !self.can_be_judged(followed, granule) {
+        if kept.unknown_since().is_some() || !self.can_be_judged(kept, granule) {
             return Ok(false);
         }
-        match followed
-            .judge
-            .check(alloc, followed.final_word, budget, progress)?
-        {
+        match kept.check(alloc, kept.final_word(), budget, progress)? {
             Standing::Unexplained => Ok(true),
             Standing::Explained | Standing::Undecided => Ok(false),
         }
@@ -166,6 +169,8 @@ impl Watch {
         ensures taken { IfOk result (λ ended. Takes event.now ended self.old self.new) }
         ensures fits { IfOk result (λ _. fault_of self.old event.now ≡ None) }
         ensures fault { IfErr result (λ fault. fault ≢ WatchFault.Memory → fault_of self.old event.now ≡ Some fault) }
+        ensures shown { IfOk result (λ _. self.new.shown ≡ self.old.shown) }
+        ensures time { IfOk result (λ _. self.new.outstanding.time ≡ event.now.time) }
         ensures looked { IfOk result (λ _. Grew (P.looked for_verdict) progress.old progress.new) }
     {
         self.admits(event)?;
@@ -178,7 +183,13 @@ impl Watch {
             looks,
             progress,
         )?;
-        update_granules(alloc, &mut self.granules, event.time, &event.kind)?;
+        update_granules(
+            alloc,
+            &mut self.granules,
+            event.time,
+            &event.kind,
+            self.shown,
+        )?;
         self.ended = one_more(self.ended, &ended);
         Ok(ended)
     }
@@ -205,10 +216,11 @@ impl Watch {
         ensures judged { IfOk result (λ found. found ≡ None → (g : ℕ) → BecomesQuiet self.old event.now self.new g → (events : List Event) → HasTaken events self.old → is_known (events ++ event.now ∷ []) g ≡ true → CanBeExplained (events ++ event.now ∷ []) g ⊎ GrewBy (P.looked for_verdict) progress.old progress.new budget) }
         ensures fits { IfOk result (λ found. fault_of self.old event.now ≡ None) }
         ensures fault { IfErr result (λ fault. fault ≢ WatchFault.Memory → fault_of self.old event.now ≡ Some fault) }
+        ensures shown { IfOk result (λ _. self.new.shown ≡ self.old.shown) }
         ensures looked { IfOk result (λ _. Grew (P.looked for_verdict) progress.old progress.new) }
     {
         let about = self.granule_about(event);
-        self.step(alloc, event, true, progress)?;
+        self.step_on(alloc, event, about, progress)?;
         let Some(granule) = about else {
             return Ok(None);
         };

@@ -8,5 +8,6 @@ mod fault_tests;
 mod home;
 mod hot_tests;
 mod reach_tests;
+mod settled_tests;
 mod stop;
 mod watch_tests;

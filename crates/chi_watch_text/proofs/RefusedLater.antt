@@ -38,10 +38,10 @@ states_later text rest time ended found quiet w r s fault.Memory has format at l
 
 pub found_refused : (start now : Option (List ℕ)) (time : ℕ) (ended : Bool) (found after : List FoundGranule) (quiet : List Quiet) (w : WatchValue) (r s : Reading) (f : LinesFault)
     → HasTakenLines start time ended found quiet w r now → FailsNext start r now s f → s.format ≡ r.format
-    → (after ≡ found) ⊎ (IsRefusedLater s f time × All (IsStillFound w quiet found) after) → IfSome start (λ text. All (IsFoundBy r.format text) after)
+    → (after ≡ found) ⊎ (IsRefusedLater s f time × All (IsStillFound w quiet found) after) → IfSome start (λ text. All (IsFoundBy r.format text w.shown) after)
 found_refused None now time ended found after quiet w r s f has fails format either = tt
 found_refused (Some text) None time ended found after quiet w r s f has fails format either = absurd has
-found_refused (Some text) (Some rest) time ended found after quiet w r s f has fails format (inl same) = subst (All (IsFoundBy r.format text)) (sym same) has.found_by
+found_refused (Some text) (Some rest) time ended found after quiet w r s f has fails format (inl same) = subst (All (IsFoundBy r.format text w.shown)) (sym same) has.found_by
 found_refused (Some text) (Some rest) time ended found after quiet w r s f has fails format (inr (later, each)) =
     found_past text rest time ended found after quiet w r has
     (inr (inr (states_later text rest time ended found quiet w r s f has format (fails has.events has.given).1 later))) each

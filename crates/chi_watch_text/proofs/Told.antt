@@ -54,7 +54,7 @@ none_taken (Some text) w r found quiet has given none calm = record {
   taken = has;
   times = All-nil (λ e. e.time ≤ 0);
   ended_is = refl;
-  found_by = subst (All (IsFoundBy r.format text)) (sym none) (All-nil (IsFoundBy r.format text));
+  found_by = subst (All (IsFoundBy r.format text w.shown)) (sym none) (All-nil (IsFoundBy r.format text w.shown));
   quiet_by = subst (All (IsQuietBy r.format text)) (sym calm) (All-nil (IsQuietBy r.format text));
 }
 
@@ -138,11 +138,11 @@ quiet_noted P (Some g) line quiet all one =
 
 -- one event more was taken
 pub event_taken : (start now later : Option (List ℕ)) (time : ℕ) (ended : Bool) (found : List FoundGranule) (quiet after : List Quiet) (old new : WatchValue) (r s : Reading) (e : Event) (seen : Option ℕ)
-    → HasTakenLines start time ended found quiet old r now → GivesNext start r now (Some e) s later → s.format ≡ r.format → TakesEvent old e new seen → after ≡ with_quiet seen s.number quiet
+    → HasTakenLines start time ended found quiet old r now → GivesNext start r now (Some e) s later → s.format ≡ r.format → TakesEvent old e new seen → new.shown ≡ old.shown → after ≡ with_quiet seen s.number quiet
     → HasTakenLines start e.time (is_end e) found after new s later
-event_taken None now later time ended found quiet after old new r s e seen has gives format takes is = tt
-event_taken (Some text) None later time ended found quiet after old new r s e seen has gives format takes is = absurd has
-event_taken (Some text) (Some rest) later time ended found quiet after old new r s e seen has gives format takes is = by_rest later (gives has.events has.given).0 (gives has.events has.given).1
+event_taken None now later time ended found quiet after old new r s e seen has gives format takes shown is = tt
+event_taken (Some text) None later time ended found quiet after old new r s e seen has gives format takes shown is = absurd has
+event_taken (Some text) (Some rest) later time ended found quiet after old new r s e seen has gives format takes shown is = by_rest later (gives has.events has.given).0 (gives has.events has.given).1
   where
     taken : HasTaken (has.events ++ e ∷ []) new
     taken = takes.taken has.events has.taken
@@ -155,7 +155,7 @@ event_taken (Some text) (Some rest) later time ended found quiet after old new r
       taken = taken;
       times = latest has.events e new taken;
       ended_is = sym (ended_more has.events e);
-      found_by = subst (λ (f : LineFormat). All (IsFoundBy f text) found) (sym format) has.found_by;
+      found_by = subst (λ (f : LineFormat). All (IsFoundBy f text new.shown) found) (sym format) (subst (λ (n : ℕ). All (IsFoundBy r.format text n) found) (sym shown) has.found_by);
       quiet_by = subst (All (IsQuietBy s.format text)) (sym is)
           (quiet_noted (IsQuietBy s.format text) seen s.number quiet (subst (λ (f : LineFormat). All (IsQuietBy f text) quiet) (sym format) has.quiet_by) (by_seen seen takes.unexplained));
     }
@@ -180,11 +180,11 @@ past text rest events time r s (Some e) later has times gives format after = by_
 
 -- those that are still unexplained once all events of a time are told are found
 pub found_past : (text rest : List ℕ) (time : ℕ) (ended : Bool) (found found_after : List FoundGranule) (quiet : List Quiet) (w : WatchValue) (r : Reading) → (has : AreTaken text time ended found quiet w r rest)
-    → IsPast r.format text has.events → All (IsStillFound w quiet found) found_after → All (IsFoundBy r.format text) found_after
-found_past text rest time ended found found_after quiet w r has past each = All-weaker (IsStillFound w quiet found) (IsFoundBy r.format text) is_found_by found_after each
+    → IsPast r.format text has.events → All (IsStillFound w quiet found) found_after → All (IsFoundBy r.format text w.shown) found_after
+found_past text rest time ended found found_after quiet w r has past each = All-weaker (IsStillFound w quiet found) (IsFoundBy r.format text w.shown) is_found_by found_after each
   where
-    is_found_by : (f : FoundGranule) → IsStillFound w quiet found f → IsFoundBy r.format text f
-    is_found_by f (inl before) = All-contains (IsFoundBy r.format text) found f has.found_by before
+    is_found_by : (f : FoundGranule) → IsStillFound w quiet found f → IsFoundBy r.format text w.shown f
+    is_found_by f (inl before) = All-contains (IsFoundBy r.format text w.shown) found f has.found_by before
     is_found_by f (inr (q, calm, noted)) = record {
       seen = subst (λ g. IsSeenBy r.format text g f.line) (sym noted.granule)
           (subst (IsSeenBy r.format text q.granule) (sym noted.line) (All-contains (IsQuietBy r.format text) quiet q has.quiet_by calm));
@@ -197,15 +197,15 @@ found_past text rest time ended found found_after quiet w r has past each = All-
 -- so those of a time that is past
 found_more : (text rest : List ℕ) (time : ℕ) (ended : Bool) (found found_after : List FoundGranule) (quiet : List Quiet) (w : WatchValue) (r s : Reading) (next : Option Event) (later : Option (List ℕ))
     (is_past : Bool) → AreTaken text time ended found quiet w r rest → GivesNext (Some text) r (Some rest) next s later → s.format ≡ r.format → (is_past ≡ true → IfSome next (λ e. time < e.time))
-    → (is_past ≡ false → found_after ≡ found) → (is_past ≡ true → All (IsStillFound w quiet found) found_after) → All (IsFoundBy r.format text) found_after
-found_more text rest time ended found found_after quiet w r s next later false has gives format after waits each = subst (All (IsFoundBy r.format text)) (sym (waits refl)) has.found_by
+    → (is_past ≡ false → found_after ≡ found) → (is_past ≡ true → All (IsStillFound w quiet found) found_after) → All (IsFoundBy r.format text w.shown) found_after
+found_more text rest time ended found found_after quiet w r s next later false has gives format after waits each = subst (All (IsFoundBy r.format text w.shown)) (sym (waits refl)) has.found_by
 found_more text rest time ended found found_after quiet w r s next later true has gives format after waits each =
     found_past text rest time ended found found_after quiet w r has (past text rest has.events time r s next later has.given has.times gives format (after refl)) (each refl)
 
 -- also where the judging of them fails
 pub found_so_far : (start now later : Option (List ℕ)) (time : ℕ) (ended : Bool) (found found_after : List FoundGranule) (quiet : List Quiet) (w : WatchValue) (r s : Reading) (next : Option Event) (is_past : Bool)
     → HasTakenLines start time ended found quiet w r now → GivesNext start r now next s later → s.format ≡ r.format → (is_past ≡ true → IfSome next (λ e. time < e.time))
-    → (is_past ≡ false → found_after ≡ found) → (is_past ≡ true → All (IsStillFound w quiet found) found_after) → IfSome start (λ text. All (IsFoundBy r.format text) found_after)
+    → (is_past ≡ false → found_after ≡ found) → (is_past ≡ true → All (IsStillFound w quiet found) found_after) → IfSome start (λ text. All (IsFoundBy r.format text w.shown) found_after)
 found_so_far None now later time ended found found_after quiet w r s next is_past has gives format after waits each = tt
 found_so_far (Some text) None later time ended found found_after quiet w r s next is_past has gives format after waits each = absurd has
 found_so_far (Some text) (Some rest) later time ended found found_after quiet w r s next is_past has gives format after waits each =
@@ -239,11 +239,11 @@ none_found true stop going found after first waits goes none ends = none goes re
 none_found false stop going found after first waits goes none ends = waits refl ∙ first ends
 
 -- what is said of the events
-says_of : (w : WatchValue) (events : List Event) → HasTaken events w → (ending : Ending) → SaysAtEnd w ending → SaysOf events ending
+says_of : (w : WatchValue) (events : List Event) → HasTaken events w → (ending : Ending) → SaysAtEnd w ending → SaysOf w.shown events ending
 says_of w events has ending says = record {
   whole = λ none_un none_dec. says.whole none_un none_dec events has;
   each = λ g. says.each g events has;
-  unexplained = All-weaker (λ f. (all : List Event) → HasTaken all w → IsFoundAtEnd all f) (IsFoundAtEnd events) (λ f is. is events has) ending.unexplained.items says.unexplained;
+  unexplained = All-weaker (λ f. (all : List Event) → HasTaken all w → IsFoundAtEnd w.shown all f) (IsFoundAtEnd w.shown events) (λ f is. is events has) ending.unexplained.items says.unexplained;
   undecided = All-weaker (λ u. (all : List Event) → HasTaken all w → IsExplainedTo all u) (IsExplainedTo events) (λ u is. is events has) ending.undecided.items says.undecided;
 }
 
@@ -251,7 +251,7 @@ says_of w events has ending says = record {
 pub at_end : (start now later : Option (List ℕ)) (time : ℕ) (ended : Bool) (found : List FoundGranule) (quiet : List Quiet) (going : Bool) (w : WatchValue) (r s : Reading) (kept : Option (Vec ℕ Global)) (watched : Watched)
     → HasTakenLines start time ended found quiet w r now → GivesNext start r now None s later → r.pending.items ≡ [] → AllPairs (λ a b. a.granule ≢ b.granule) found → (going ≡ false → found ≡ [])
     → IsTold w found ended kept watched → watched.ending ≢ None → IfSome watched.ending (SaysAtEnd w) → ((flits : List Flit) → HasSeen flits s.port.port → watched.waiting.items ≡ first_waiting flits w.outstanding.requests)
-    → AreKeptOf start kept now → IfSome start (λ text. IsWatched r.format text going watched)
+    → AreKeptOf start kept now → IfSome start (λ text. IsWatched r.format text going w.shown watched)
 at_end None now later time ended found quiet going w r s kept watched has gives whole once first told some says waits are_kept = tt
 at_end (Some text) None later time ended found quiet going w r s kept watched has gives whole once first told some says waits are_kept = absurd has
 at_end (Some text) (Some rest) later time ended found quiet going w r s kept watched has gives whole once first told some says waits are_kept = record {
@@ -259,9 +259,9 @@ at_end (Some text) (Some rest) later time ended found quiet going w r s kept wat
   count = r.number;
   rest = rest;
   told = subst (λ (l : List Event). AreTold r.format text r.number has.events l rest) whole has.given.told;
-  found = subst (All (IsFoundBy r.format text)) (sym told.found_is) has.found_by;
+  found = subst (All (IsFoundBy r.format text w.shown)) (sym told.found_is) has.found_by;
   once = subst (AllPairs (λ (x y : FoundGranule). x.granule ≢ y.granule)) (sym told.found_is) once;
-  ends = subst (λ l. EndsAt r.format text going has.events l watched.ending) (sym told.found_is) (by_ending watched.ending some says);
+  ends = subst (λ l. EndsAt r.format text going w.shown has.events l watched.ending) (sym told.found_is) (by_ending watched.ending some says);
   counted = told.counted has.events has.taken;
   watch = w;
   taken = has.taken;
@@ -276,7 +276,7 @@ at_end (Some text) (Some rest) later time ended found quiet going w r s kept wat
     by_list None is_some all = absurd (is_some refl)
     by_list (Some ending) is_some all = (s.number, all.rest, all.told, all.blank, waits all.told.read.seen.flits all.seen.flits)
 
-    by_ending : (o : Option Ending) → o ≢ None → IfSome o (SaysAtEnd w) → EndsAt r.format text going has.events found o
+    by_ending : (o : Option Ending) → o ≢ None → IfSome o (SaysAtEnd w) → EndsAt r.format text going w.shown has.events found o
     by_ending None is_some said = absurd (is_some refl)
     by_ending (Some ending) is_some said = (all_told r.format text has.events s (gives has.events has.given), says_of w has.events has.taken ending said, first)
 
@@ -284,7 +284,7 @@ at_end (Some text) (Some rest) later time ended found quiet going w r s kept wat
 pub at_stop : (start now later : Option (List ℕ)) (time : ℕ) (ended : Bool) (found : List FoundGranule) (quiet : List Quiet) (going is_past : Bool) (w : WatchValue) (r s : Reading) (next : Option Event) (kept : Option (Vec ℕ Global)) (watched : Watched)
     → HasTakenLines start time ended found quiet w r now → GivesNext start r now next s later → s.format ≡ r.format → (is_past ≡ true → IfSome next (λ e. time < e.time)) → (is_past ≡ true → r.pending.items ≡ [])
     → AllPairs (λ a b. a.granule ≢ b.granule) found → (is_past ≡ true) × (going ≡ false) × (0 < length found) → IsTold w found ended kept watched → watched.ending ≡ None → watched.waiting.items ≡ []
-    → AreKeptOf start kept now → IfSome start (λ text. IsWatched r.format text going watched)
+    → AreKeptOf start kept now → IfSome start (λ text. IsWatched r.format text going w.shown watched)
 at_stop None now later time ended found quiet going is_past w r s next kept watched has gives format after whole once stops told none unlisted are_kept = tt
 at_stop (Some text) None later time ended found quiet going is_past w r s next kept watched has gives format after whole once stops told none unlisted are_kept = absurd has
 at_stop (Some text) (Some rest) later time ended found quiet going is_past w r s next kept watched has gives format after whole once stops told none unlisted are_kept = record {
@@ -292,9 +292,9 @@ at_stop (Some text) (Some rest) later time ended found quiet going is_past w r s
   count = r.number;
   rest = rest;
   told = subst (λ (l : List Event). AreTold r.format text r.number has.events l rest) (whole stops.0) has.given.told;
-  found = subst (All (IsFoundBy r.format text)) (sym told.found_is) has.found_by;
+  found = subst (All (IsFoundBy r.format text w.shown)) (sym told.found_is) has.found_by;
   once = subst (AllPairs (λ (x y : FoundGranule). x.granule ≢ y.granule)) (sym told.found_is) once;
-  ends = subst (EndsAt r.format text going has.events watched.found.items) (sym none)
+  ends = subst (EndsAt r.format text going w.shown has.events watched.found.items) (sym none)
       (stops.1, subst (λ l. 0 < length l) (sym told.found_is) stops.2, past text rest has.events time r s next later has.given has.times gives format (after stops.0));
   counted = told.counted has.events has.taken;
   watch = w;
@@ -305,6 +305,17 @@ at_stop (Some text) (Some rest) later time ended found quiet going is_past w r s
   ended_is = told.ended_is ∙ has.ended_is;
   kept = subst (λ (o : Option (Vec ℕ Global)). AreKept text o rest) (sym told.kept_is) are_kept;
 }
+
+-- so in the format and with as many operations shown as were asked for
+pub watched_as : (start : Option (List ℕ)) (k format : LineFormat) (n around : ℕ) (going : Bool) (watched : Watched) → k ≡ format → n ≡ around → IfSome start (λ text. IsWatched k text going n watched)
+    → IfSome start (λ text. IsWatched format text going around watched)
+watched_as start k format n around going watched same_format same_number is =
+    subst (λ (m : ℕ). IfSome start (λ text. IsWatched format text going m watched)) same_number (subst (λ (f : LineFormat). IfSome start (λ text. IsWatched f text going n watched)) same_format is)
+
+pub found_as : (start : Option (List ℕ)) (k format : LineFormat) (n around : ℕ) (found : List FoundGranule) → k ≡ format → n ≡ around → IfSome start (λ text. All (IsFoundBy k text n) found)
+    → IfSome start (λ text. All (IsFoundBy format text around) found)
+found_as start k format n around found same_format same_number is =
+    subst (λ (m : ℕ). IfSome start (λ text. All (IsFoundBy format text m) found)) same_number (subst (λ (f : LineFormat). IfSome start (λ text. All (IsFoundBy f text n) found)) same_format is)
 
 -- and what was found by then
 pub kept_at_fault : {A E : Type 0} (start : Option (List ℕ)) (P : List ℕ → Type 0) (r : Result A E) → IfSome start P → IfSome start (λ text. IfErr r (λ _. P text))
@@ -385,7 +396,7 @@ took (Some text) (Some rest) time ended found quiet w r has = (has.events, has.g
 
 -- those were found
 pub found_of : (start now : Option (List ℕ)) (time : ℕ) (ended : Bool) (found : List FoundGranule) (quiet : List Quiet) (w : WatchValue) (r : Reading) → HasTakenLines start time ended found quiet w r now
-    → IfSome start (λ text. All (IsFoundBy r.format text) found)
+    → IfSome start (λ text. All (IsFoundBy r.format text w.shown) found)
 found_of None now time ended found quiet w r has = tt
 found_of (Some text) None time ended found quiet w r has = absurd has
 found_of (Some text) (Some rest) time ended found quiet w r has = has.found_by

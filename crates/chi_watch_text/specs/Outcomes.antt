@@ -68,20 +68,20 @@ IsPast format text events =
     AreToldAll format text events ⊎ (((e : Event) × IsNext format text events e × All (λ d. d.time < e.time) events) ⊎ StatesLater format text events)
 
 -- No order explains the granule by the lines up to the one that is named, and none does once all events of that time are told. By
--- these its operations can be explained so far.
-pub record IsFoundBy (format : LineFormat) (text : List ℕ) (f : FoundGranule) : Type 0 where
+-- these its operations can be explained so far, and so many are shown at most before the one that is blamed.
+pub record IsFoundBy (format : LineFormat) (text : List ℕ) (shown : ℕ) (f : FoundGranule) : Type 0 where
   pub seen : IsSeenBy format text f.granule f.line
   pub events : List Event
   pub past : IsPast format text events
   pub unexplained : IsUnexplained events f.granule
-  pub reach : IsReach events f.granule f.reach
+  pub reach : IsReach shown events f.granule f.reach
 
 -- the granule that became quiet is noted: no order explains it, and its operations can be explained so far
 pub record IsNotedAs (w : WatchValue) (q : Quiet) (f : FoundGranule) : Type 0 where
   pub granule : f.granule ≡ q.granule
   pub line : f.line ≡ q.line
   pub unexplained : (events : List Event) → HasTaken events w → IsUnexplained events f.granule
-  pub reach : (events : List Event) → HasTaken events w → IsReach events f.granule f.reach
+  pub reach : (events : List Event) → HasTaken events w → IsReach w.shown events f.granule f.reach
 
 -- a granule that was found before, or is one of these that became quiet and is still unexplained
 abbrev pub IsStillFound : WatchValue → List Quiet → List FoundGranule → FoundGranule → Type 0
@@ -97,19 +97,19 @@ AreReachedBy w looked old new budget before after =
     (events : List Event) → HasTaken events w → All (λ f. Contains before f ⊎ IsReachedBy looked old new budget f.reach f.cut_short) after
 
 -- What is said of events at their end. Where no granule is listed all that is judged is explained. What is judged of each granule can
--- be explained, or it is listed; no order explains one that is listed as such, and one that is not decided is explained up to the time
--- that is told.
-pub record SaysOf (events : List Event) (ending : Ending) : Type 0 where
+-- be explained, or it is listed; no order explains one that is listed as such, and so many of its operations are shown at most; and one
+-- that is not decided is explained up to the time that is told.
+pub record SaysOf (shown : ℕ) (events : List Event) (ending : Ending) : Type 0 where
   pub whole : ending.unexplained.items ≡ [] → ending.undecided.items ≡ [] → IsExplained events
   pub each : (g : ℕ) → CanBeExplained events g ⊎ IsListed g (granules_of ending.unexplained.items) (undecided_of ending.undecided.items)
-  pub unexplained : All (IsFoundAtEnd events) ending.unexplained.items
+  pub unexplained : All (IsFoundAtEnd shown events) ending.unexplained.items
   pub undecided : All (IsExplainedTo events) ending.undecided.items
 
 -- where the reading ends once these events are told: at the end of the text, or, where it does not keep going, once all events are
 -- told of a time at which a granule was found
-abbrev pub EndsAt : LineFormat → List ℕ → Bool → List Event → List FoundGranule → Option Ending → Type 0
-EndsAt format text going events found (Some ending) = AreToldAll format text events × SaysOf events ending × (going ≡ false → found ≡ [])
-EndsAt format text going events found None = (going ≡ false) × (0 < length found) × IsPast format text events
+abbrev pub EndsAt : LineFormat → List ℕ → Bool → ℕ → List Event → List FoundGranule → Option Ending → Type 0
+EndsAt format text going shown events found (Some ending) = AreToldAll format text events × SaysOf shown events ending × (going ≡ false → found ≡ [])
+EndsAt format text going shown events found None = (going ≡ false) × (0 < length found) × IsPast format text events
 
 -- where the events end, the first requests that are outstanding then are listed, with what each waits for
 abbrev pub AreListed : LineFormat → List ℕ → List Event → WatchValue → Option Ending → List Waiting → Type 0
@@ -117,15 +117,16 @@ AreListed format text events watch None listed = listed ≡ []
 AreListed format text events watch (Some ending) listed =
     (count : ℕ) × (rest : List ℕ) × (told : AreTold format text count events [] rest) × (is_blank rest ≡ true) × (listed ≡ first_waiting told.read.seen.flits watch.outstanding.requests)
 
--- What is found of a text: of so many lines, which tell events that a watch takes. Where lines are kept, these are.
-pub record IsWatched (format : LineFormat) (text : List ℕ) (going : Bool) (w : Watched) : Type 0 where
+-- What is found of a text: of so many lines, which tell events that a watch takes. Of a granule that no order explains so many
+-- operations are shown at most. Where lines are kept, these are.
+pub record IsWatched (format : LineFormat) (text : List ℕ) (going : Bool) (shown : ℕ) (w : Watched) : Type 0 where
   pub events : List Event
   pub count : ℕ
   pub rest : List ℕ
   pub told : AreTold format text count events [] rest
-  pub found : All (IsFoundBy format text) w.found.items
+  pub found : All (IsFoundBy format text shown) w.found.items
   pub once : AllPairs (λ a b. a.granule ≢ b.granule) w.found.items
-  pub ends : EndsAt format text going events w.found.items w.ending
+  pub ends : EndsAt format text going shown events w.found.items w.ending
   pub counted : AreCounted events w.counts
   pub watch : WatchValue
   pub taken : HasTaken events watch
@@ -155,9 +156,9 @@ abbrev pub IsWatchingFault : LineFormat → List ℕ → LinesFault → Type 0
 IsWatchingFault format text f = f ≢ fault.Write → IsLinesFault format text f
 
 -- what comes of a text: what is found of it, or why it is watched no further, and the granules that were found by then
-abbrev pub IsOutcome : LineFormat → List ℕ → Bool → Result Watched Unfinished → Type 0
-IsOutcome format text going (Ok watched) = IsWatched format text going watched
-IsOutcome format text going (Err unfinished) = IsWatchingFault format text unfinished.fault × All (IsFoundBy format text) unfinished.found.items
+abbrev pub IsOutcome : LineFormat → List ℕ → Bool → ℕ → Result Watched Unfinished → Type 0
+IsOutcome format text going shown (Ok watched) = IsWatched format text going shown watched
+IsOutcome format text going shown (Err unfinished) = IsWatchingFault format text unfinished.fault × All (IsFoundBy format text shown) unfinished.found.items
 
 -- what a watch says once its events have ended, or where it stops
 pub record IsTold (w : WatchValue) (found : List FoundGranule) (ended : Bool) (kept : Option (Vec ℕ Global)) (watched : Watched) : Type 0 where
@@ -172,7 +173,7 @@ pub record IsTold (w : WatchValue) (found : List FoundGranule) (ended : Bool) (k
 pub record SaysAtEnd (w : WatchValue) (ending : Ending) : Type 0 where
   pub whole : ending.unexplained.items ≡ [] → ending.undecided.items ≡ [] → (events : List Event) → HasTaken events w → IsExplained events
   pub each : (g : ℕ) (events : List Event) → HasTaken events w → CanBeExplained events g ⊎ IsListed g (granules_of ending.unexplained.items) (undecided_of ending.undecided.items)
-  pub unexplained : All (λ f. (events : List Event) → HasTaken events w → IsFoundAtEnd events f) ending.unexplained.items
+  pub unexplained : All (λ f. (events : List Event) → HasTaken events w → IsFoundAtEnd w.shown events f) ending.unexplained.items
   pub undecided : All (λ u. (events : List Event) → HasTaken events w → IsExplainedTo events u) ending.undecided.items
 
 -- A watch took the events that the reading has given, of which none is later than this time, and the last is the end or is not. These
@@ -183,7 +184,7 @@ pub record AreTaken (text : List ℕ) (time : ℕ) (ended : Bool) (found : List 
   pub taken : HasTaken events watch
   pub times : All (λ e. e.time ≤ time) events
   pub ended_is : ended ≡ are_ended events
-  pub found_by : All (IsFoundBy r.format text) found
+  pub found_by : All (IsFoundBy r.format text watch.shown) found
   pub quiet_by : All (IsQuietBy r.format text) quiet
 
 -- the same of a text that may not be known

@@ -165,7 +165,8 @@ impl Recording {
         ensures { IfOk result (HasRecorded []) }
     {
         Ok(Recording {
-            watch: Watch::new(alloc)?,
+            // It is asked for no reach, so nothing is shown.
+            watch: Watch::new(alloc, 0)?,
             ended: Vec::new(alloc),
             writes: Vec::new(alloc),
             opening: BTreeMap::new(alloc),

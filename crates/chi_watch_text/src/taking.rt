@@ -1,6 +1,6 @@
 //! An event of a line: the watch takes it, and what was found by it is noted.
 
-ghost use Rattle.std.specs.Prelude.{IfErr, IfOk};
+ghost use Rattle.std.specs.Prelude.{◌≡◌, IfErr, IfOk};
 ghost use Rattle.chi_search.specs.Looks.{Grew, for_verdict};
 ghost use Rattle.chi_watch_text.specs.Kept.{KeepsLine};
 ghost use Rattle.chi_watch_text.specs.Outcomes.{IsEventFault, TakesEvent, TakesLine};
@@ -23,6 +23,7 @@ fn take_event<P: WatchProgress>(
     progress: &mut P,
 ) -> Result<Option<u64>, LinesFault>
     ensures taken { IfOk result (TakesEvent watch.old event.now watch.new) }
+    ensures shown { IfOk result (λ _. watch.new.shown ≡ watch.old.shown) }
     ensures fault { IfErr result (IsEventFault watch.old event.now number) }
     ensures looked { IfOk result (λ _. Grew (P.looked for_verdict) progress.old progress.new) }
 {
@@ -50,6 +51,7 @@ pub(crate) fn take_line<P: WatchProgress>(
     progress: &mut P,
 ) -> Result<(), LinesFault>
     ensures taken { IfOk result (λ _. TakesLine watch.old event.now number quiet.old.items watch.new quiet.new.items) }
+    ensures shown { IfOk result (λ _. watch.new.shown ≡ watch.old.shown) }
     ensures kept { IfOk result (λ _. KeepsLine kept.old lines.now kept.new) }
     ensures fault { IfErr result (IsEventFault watch.old event.now number) }
     ensures looked { IfOk result (λ _. Grew (P.looked for_verdict) progress.old progress.new) }

@@ -184,13 +184,14 @@ fn watch_each<R: BufRead, W: Write, P: WatchProgress>(
     progress: &mut P,
 ) -> Result<Watched, LinesFault>
     requires untold { Watches [] [] watch }
+    requires shown { watch.shown ≡ options.now.around }
     requires none { found.old.items ≡ [] }
-    ensures watched { IfSome (R.remaining from.old) (λ text. IfOk result (IsWatched options.now.format text options.now.keep_going)) }
+    ensures watched { IfSome (R.remaining from.old) (λ text. IfOk result (IsWatched options.now.format text options.now.keep_going options.now.around)) }
     ensures fault { IfSome (R.remaining from.old) (λ text. IfErr result (IsWatchingFault options.now.format text)) }
     ensures told { IfOk result (λ watched. Appends (W.contents to.old) (W.contents to.new) (flat_map (found_text options.now.answer) watched.found.items)) }
     ensures kept { IfErr result (λ fault. fault ≢ LinesFault.Write → Appends (W.contents to.old) (W.contents to.new) (flat_map (found_text options.now.answer) found.new.items)) }
     ensures begun { IfErr result (λ _. AppendsFront (W.contents to.old) (W.contents to.new) (flat_map (found_text options.now.answer) found.new.items)) }
-    ensures found { IfSome (R.remaining from.old) (λ text. IfErr result (λ _. All (IsFoundBy options.now.format text) found.new.items)) }
+    ensures found { IfSome (R.remaining from.old) (λ text. IfErr result (λ _. All (IsFoundBy options.now.format text options.now.around) found.new.items)) }
     ensures keeps { IfOk result (λ watched. is_some watched.kept ≡ options.now.keep_lines) }
     ensures undecided { IfOk result (WentBy (P.looked for_verdict) progress.old progress.new options.now.budget) }
     ensures far { IfSome (R.remaining from.old) (λ text. IfOk result (WentAsFar (P.looked for_verdict) progress.old progress.new options.now.budget options.now.format text)) }
@@ -269,7 +270,7 @@ pub fn watch_lines<R: BufRead, W: Write, P: WatchProgress>(
     options: &WatchOptions,
     progress: &mut P,
 ) -> Result<Watched, Unfinished>
-    ensures outcome { IfSome (R.remaining from.old) (λ text. IsOutcome options.now.format text options.now.keep_going result) }
+    ensures outcome { IfSome (R.remaining from.old) (λ text. IsOutcome options.now.format text options.now.keep_going options.now.around result) }
     ensures told { IfOk result (λ watched. Appends (W.contents to.old) (W.contents to.new) (flat_map (found_text options.now.answer) watched.found.items)) }
     ensures kept { IfErr result (λ unfinished. unfinished.fault ≢ LinesFault.Write → Appends (W.contents to.old) (W.contents to.new) (flat_map (found_text options.now.answer) unfinished.found.items)) }
     ensures keeps { IfOk result (λ watched. is_some watched.kept ≡ options.now.keep_lines) }
@@ -279,7 +280,7 @@ pub fn watch_lines<R: BufRead, W: Write, P: WatchProgress>(
     ensures reached { IfOk result (ReachedBy (P.looked for_verdict) progress.old progress.new options.now.budget) }
 {
     let mut found = Vec::new(alloc);
-    let Ok(watch) = Watch::new(alloc) else {
+    let Ok(watch) = Watch::new(alloc, options.around) else {
         let fault = LinesFault::Memory;
         return Err(Unfinished { found, fault });
     };

@@ -12,7 +12,7 @@ type Step = (u64, Told, (u64, usize, usize), u64);
 
 // Compares these counts after each event.
 fn assert_counts<R: AllocGlobal + Abort>(rt: &R, events: &[Step]) -> Result<(), Fail> {
-    let mut watch = Watch::new(rt.alloc())?;
+    let mut watch = Watch::new(rt.alloc(), 16)?;
     for (time, told, (ended, outstanding, granules), unjudged) in events {
         take(rt.alloc(), &mut watch, *time, *told)?;
         let wanted = Counts {
@@ -52,7 +52,7 @@ fn a_handful_of_events(rt: HostRuntime) -> Result<(), Fail> {
 // An event that cannot be taken is not counted.
 #[test]
 fn an_event_that_is_not_taken(rt: HostRuntime) -> Result<(), Fail> {
-    let mut watch = Watch::new(rt.alloc())?;
+    let mut watch = Watch::new(rt.alloc(), 16)?;
     take(rt.alloc(), &mut watch, 1, Told::Write(1, 5))?;
     let fault = take(rt.alloc(), &mut watch, 2, Told::ReadNext(1)).err();
     let counts = watch.counts();

@@ -14,7 +14,7 @@ fn fault_after(
     events: &[Told],
     told: Told,
 ) -> Result<Option<WatchFault>, WatchFault> {
-    let mut watch = Watch::new(alloc)?;
+    let mut watch = Watch::new(alloc, 16)?;
     take_all(alloc, &mut watch, events)?;
     Ok(take(alloc, &mut watch, 9, told).err())
 }

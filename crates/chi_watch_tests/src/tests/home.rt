@@ -172,16 +172,21 @@ pub(crate) fn take_all(
     Ok(found)
 }
 
-/// Compares what is found in a case by the last of these events; by the others nothing is found.
+// How many operations are shown: as usual, and none, where settled granules are kept as their words.
+const SHOWN: [usize; 2] = [16, 0];
+
+/// Compares what is found in a case by the last of these events, however many operations are shown; by the others nothing is found.
 pub(crate) fn assert_found<R: AllocGlobal + Abort>(
     rt: &R,
     case: &str,
     events: &[Told],
     wanted: Option<u64>,
 ) -> Result<(), Fail> {
-    let mut watch = Watch::new(rt.alloc())?;
-    let found = take_all(rt.alloc(), &mut watch, events)?;
-    assert_same(rt, (case, found), (case, wanted));
+    for shown in SHOWN {
+        let mut watch = Watch::new(rt.alloc(), shown)?;
+        let found = take_all(rt.alloc(), &mut watch, events)?;
+        assert_same(rt, (case, shown, found), (case, shown, wanted));
+    }
     Ok(())
 }
 
@@ -210,7 +215,7 @@ pub(crate) fn ending_of(
     budget: u64,
     may_find: bool,
 ) -> Result<Ending, Fail> {
-    let mut watch = Watch::new(alloc)?;
+    let mut watch = Watch::new(alloc, 16)?;
     let found = take_all(alloc, &mut watch, events)?;
     if found.is_some() && !may_find {
         return Err(Fail::new("a granule was found by an event"));

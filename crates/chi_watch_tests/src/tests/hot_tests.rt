@@ -44,7 +44,7 @@ fn read_of_a_sum_that_is_never_there(rt: HostRuntime) -> Result<(), Fail> {
 // answers one less than it should. The number of the one by whose answer the granule is found, and whether it is said then where it
 // stops being explained.
 fn four_open(alloc: Global, lost: u16) -> Result<Option<(u16, bool)>, Fail> {
-    let mut watch = Watch::new(alloc)?;
+    let mut watch = Watch::new(alloc, 16)?;
     for id in 0..4 {
         take(alloc, &mut watch, id, Told::Add(id, 1))?;
     }
@@ -108,7 +108,7 @@ fn take_a_wrong_read(alloc: Global, watch: &mut Watch) -> Result<(), WatchFault>
 // identifiers were used before are not seen to answer after it: it is the read that is named.
 #[test]
 fn after_many(rt: HostRuntime) -> Result<(), Fail> {
-    let mut watch = Watch::new(rt.alloc())?;
+    let mut watch = Watch::new(rt.alloc(), 16)?;
     take_two_hundred(rt.alloc(), &mut watch)?;
     take_a_wrong_read(rt.alloc(), &mut watch)?;
     let reach = reach(rt.alloc(), &watch, GRANULE, BUDGET)?;

@@ -23,7 +23,7 @@ pub(crate) fn reach(
 
 // How far the granule can be explained after these events.
 fn reach_after(alloc: Global, events: &[Told], budget: u64) -> Result<Reach, Fail> {
-    let mut watch = Watch::new(alloc)?;
+    let mut watch = Watch::new(alloc, 16)?;
     take_all(alloc, &mut watch, events)?;
     reach(alloc, &watch, GRANULE, budget)
 }
@@ -129,7 +129,7 @@ pub(crate) fn take_timed(
 // At time 0 nothing is known before.
 #[test]
 fn time_0(rt: HostRuntime) -> Result<(), Fail> {
-    let mut watch = Watch::new(rt.alloc())?;
+    let mut watch = Watch::new(rt.alloc(), 16)?;
     let events = [(0, Told::Read(1)), (0, Told::Answer(1, 7))];
     take_timed(rt.alloc(), &mut watch, &events)?;
     let reach = reach(rt.alloc(), &watch, GRANULE, BUDGET)?;
@@ -171,7 +171,7 @@ fn assert_whole<R: AllocGlobal + Abort>(rt: &R, reach: &Reach, wanted: &[u64]) -
 // requests are outstanding, is not looked at.
 #[test]
 fn explained_and_not_looked_at(rt: HostRuntime) -> Result<(), Fail> {
-    let mut watch = Watch::new(rt.alloc())?;
+    let mut watch = Watch::new(rt.alloc(), 16)?;
     let events = [Told::Write(1, 5), Told::Failed(1), Told::Read(2)];
     take_all(rt.alloc(), &mut watch, &events)?;
     assert_undecided(&rt, &watch, GRANULE, BUDGET)?;
@@ -213,7 +213,7 @@ fn at_the_end(rt: HostRuntime) -> Result<(), Fail> {
 // Within no states it is not found how far.
 #[test]
 fn no_budget(rt: HostRuntime) -> Result<(), Fail> {
-    let mut watch = Watch::new(rt.alloc())?;
+    let mut watch = Watch::new(rt.alloc(), 16)?;
     let events = [
         Told::Write(1, 5),
         Told::Done(1),

@@ -153,7 +153,7 @@ fn words_that_are_told_and_not_told(rt: HostRuntime) -> Result<(), Fail> {
 // A hundred additions of 1, each of which starts before the one before it ends: what is found before the last one ends, and when
 // that answers this.
 fn never_quiet(alloc: Global, last: u16) -> Result<(bool, Option<u64>), WatchFault> {
-    let mut watch = Watch::new(alloc)?;
+    let mut watch = Watch::new(alloc, 16)?;
     let mut is_found = take(alloc, &mut watch, 0, Told::Add(0, 1))?.is_some();
     for number in 1..100_u16 {
         let id = u64::from(number);
@@ -192,7 +192,7 @@ fn assert_recorded<R: AllocGlobal + Abort>(
 // What is recorded is not judged, and the operation that ended is answered.
 #[test]
 fn events_that_are_recorded(rt: HostRuntime) -> Result<(), Fail> {
-    let mut watch = Watch::new(rt.alloc())?;
+    let mut watch = Watch::new(rt.alloc(), 16)?;
     let events = [
         (Told::Write(1, 5), false),
         (Told::Done(1), true),

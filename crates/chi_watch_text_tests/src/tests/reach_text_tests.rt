@@ -1,7 +1,9 @@
 //! The texts of how far a granule can be explained.
 
 use crate::tests::comparison::assert_same;
-use crate::tests::events::{FIVE, READ, STOPPING, answer, without_lines};
+use crate::tests::events::{FIVE, READ, STOPPING, WRITE, answer, watched, without_lines};
+use chi_judge::Reach;
+use chi_watch_text::{FoundGranule, WatchOptions};
 use std::alloc::Global;
 use std::test::Fail;
 
@@ -37,6 +39,56 @@ at 0: 0 2 04 ReadNoSnp 3 0000000000001000 answered
   granules not judged: 0
 ",
     );
+    Ok(())
+}
+
+// A read of address 4096 from 5 to 6 that tells 0.
+const ZERO_AT_6: &str =
+    "{\"time\":5,\"event\":\"request\",\"id\":3,\"src\":0,\"txn\":3,\"op\":4,\"size\":3,\"addr\":4096,\"endian\":0}
+{\"time\":6,\"event\":\"reply\",\"id\":3,\"reply\":\"00000000000000000000000000000000\"}
+";
+
+// Of a write and a read that ended before the one that is blamed the read is shown, and of the order up to then one operation at most.
+// Neither is the write, so no line tells who wrote the wrong byte last.
+#[test]
+fn one_operation_before(rt: HostRuntime) -> Result<(), Fail> {
+    let texts = [WRITE, READ, FIVE, ZERO_AT_6];
+    let options = WatchOptions {
+        around: 1,
+        ..STOPPING
+    };
+    let text = answer(rt.alloc(), &texts, &options)?;
+    assert_same(
+        &rt,
+        text.as_str(),
+        "not explained: granule 0000000000001000
+at 6: 0 3 04 ReadNoSnp 3 0000000000001000 answered
+  the granule can hold 0500000000000000
+  open from 5 to 6: 0 3 04 ReadNoSnp 3 0000000000001000 answered
+  explained up to 5
+  the last operations of the granule, from time 3 to 6:
+    line 3 |==============                          |  3 to 4  ReadNoSnp  +0 L8  returned 0500000000000000  requester 0 txn 2
+  > line 5 |                          ##############|  5 to 6  ReadNoSnp  +0 L8  returned 0000000000000000  requester 0 txn 3
+    legal would be:  returned 0500000000000000
+    unlike each of these: +0 is 00
+  at line 6
+  operations that ended: 3
+  requests outstanding: 0
+  granules: 1
+  granules not judged: 0
+",
+    );
+    let watched = watched(rt.alloc(), &texts, &options)?;
+    let order = match watched.found.first() {
+        Some(
+            FoundGranule {
+                reach: Reach::Stops(stop),
+                ..
+            },
+        ) => stop.order.len(),
+        _ => usize::MAX,
+    };
+    assert_same(&rt, order <= 1, true);
     Ok(())
 }
 

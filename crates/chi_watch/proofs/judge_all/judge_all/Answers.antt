@@ -14,9 +14,9 @@ loop-granule-init g c =
 pub loop-granule-preserved : goal.loop-granule-preserved
 loop-granule-preserved g c =
     listed g.P.Progress.looked c.args.budget (get nat_cmp c.args.granules.now) c.args.granules.now.entries c.args.progress.now c.loop-granule.progress c.loop-granule.listed c.loop-granule.granule-iterator
-    c.next.new.self c.in-Some.granule.now c.in-Some.followed.now c.in-Some.ensures.steps c.loop-granule.invariant c.check.new.progress c.list.new.listed c.in_ok-standing.standing
-    (subst (λ (word : Option ℕ). IfExplained c.in_ok-standing.standing (CanExplain c.in-Some.followed.now.judge word)) c.judged_word.ensures c.in_ok-standing.ensures.explained)
-    (subst (λ (word : Option ℕ). IfUnexplained c.in_ok-standing.standing (CanNotExplain c.in-Some.followed.now.judge word)) c.judged_word.ensures c.in_ok-standing.ensures.unexplained)
+    c.next.new.self c.in-Some.granule.now c.in-Some.kept.now c.in-Some.ensures.steps c.loop-granule.invariant c.check.new.progress c.list.new.listed c.in_ok-standing.standing
+    (subst (λ (word : Option ℕ). IfExplained c.in_ok-standing.standing (CanExplain c.in-Some.kept.now.judge word)) c.judged_word.ensures c.in_ok-standing.ensures.explained)
+    (subst (λ (word : Option ℕ). IfUnexplained c.in_ok-standing.standing (CanNotExplain c.in-Some.kept.now.judge word)) c.judged_word.ensures c.in_ok-standing.ensures.unexplained)
     c.in_ok-standing.ensures.undecided c.in_ok-standing.ensures.goes_on c.in_ok-standing.ensures.looked c.in_ok-list.ensures
 
 pub returns : goal.returns

@@ -16,11 +16,11 @@ reached_by states looked old begun ended new ends begins budget reach (Some most
 
 pub returns-clause-undecided : goal.returns-clause-undecided
 returns-clause-undecided g c trace =
-    reached_by g.P.Progress.states g.P.Progress.looked c.args.progress.now c.after_verdict.new.self c.told_reach-reach.new.progress c.before_verdict.new.self c.after_verdict.ensures c.before_verdict.ensures
+    reached_by g.P.Progress.states g.P.Progress.looked c.args.progress.now c.after_verdict.new.self c.reach-reach.new.progress c.before_verdict.new.self c.after_verdict.ensures c.before_verdict.ensures
     c.args.budget c.in_ok-reach.field-0 c.cut_short-cut_short.result c.cut_short-cut_short.ensures c.in_ok-reach.ensures.looked
     (undecided_weaker c.in_ok-reach.field-0 (λ whole. whole trace) c.in_ok-reach.ensures.undecided)
 
 pub returns-clause-looked : goal.returns-clause-looked
 returns-clause-looked g c =
-    grew_over g.P.Progress.states g.P.Progress.looked c.args.progress.now c.after_verdict.new.self c.told_reach-reach.new.progress c.before_verdict.new.self c.after_verdict.ensures c.before_verdict.ensures
+    grew_over g.P.Progress.states g.P.Progress.looked c.args.progress.now c.after_verdict.new.self c.reach-reach.new.progress c.before_verdict.new.self c.after_verdict.ensures c.before_verdict.ensures
     c.cut_short-cut_short.result c.cut_short-cut_short.ensures c.in_ok-reach.ensures.looked

@@ -4,7 +4,7 @@ use Rattle.chi_search.specs.Looks.{GrewBy, LookedAtLeast, for_verdict}
 use Rattle.chi_search.proofs.Growing.{grew_at_least, grew_some}
 use Rattle.chi_judge.proofs.AsFar.{as_far_by}
 use Rattle.chi_watch.specs.Undecided.{AreExplainedAsFar}
-use Rattle.chi_watch.specs.declared.followed.Followed.{Followed}
+use Rattle.chi_watch.specs.Followed.{FollowedValue}
 use Rattle.chi_watch.proofs.undecided.undecided_at_end.Goals as goal
 
 pub returns-clause-far : goal.returns-clause-far
@@ -13,7 +13,7 @@ returns-clause-far g c =
     let old = c.args.progress.now in
     let new = c.explained_to.new.progress in
     let budget = c.args.budget in
-    subst (λ (o : Option Followed). IfSome o (λ f. AreExplainedAsFar (looked for_verdict) old new budget f.judge c.in_ok-explained.explained)) c.in-Some.ensures.value
+    subst (λ (o : Option FollowedValue). IfSome o (λ f. AreExplainedAsFar (looked for_verdict) old new budget f.judge c.in_ok-explained.explained)) c.in-Some.ensures.value
     (λ trace n w is. as_far_by (LookedAtLeast looked old new budget) (GrewBy (looked for_verdict) old new budget) (grew_at_least looked old new budget) trace n w c.in_ok-explained.explained
     (c.in_ok-explained.ensures.far trace n w is))
 

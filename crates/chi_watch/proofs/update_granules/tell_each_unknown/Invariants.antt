@@ -6,4 +6,4 @@ use Rattle.chi_watch.specs.Changes.{BecomesUnknownWhere}
 use Rattle.chi_watch.proofs.update_granules.tell_each_unknown.Given as goal
 
 abbrev pub invariant-loop-granule : goal.invariant-loop-granule
-invariant-loop-granule l = (g : ℕ) → BecomesUnknownWhere (nat_le (l.addr / 8) g && nat_lt g l.granule) l.time (get nat_cmp l.fn.granules g) (get nat_cmp l.granules g)
+invariant-loop-granule l = (g : ℕ) → BecomesUnknownWhere l.shown (nat_le (l.addr / 8) g && nat_lt g l.granule) l.time (get nat_cmp l.fn.granules g) (get nat_cmp l.granules g)

@@ -10,7 +10,7 @@ use Rattle.chi_watch.specs.declared.ending.Ending.{Ending}
 use Rattle.chi_watch.specs.declared.ending.FoundAtEnd.{FoundAtEnd}
 use Rattle.chi_watch_text.specs.Kept.{KeepsLine}
 use Rattle.chi_watch.specs.Reaching.{IsReachedBy}
-use Rattle.chi_watch_text.specs.Outcomes.{AreAsFar, HasTakenLines, IsFoundBy, IsLinesFault, IsWatched, IsWatchingFault}
+use Rattle.chi_watch_text.specs.Outcomes.{AreAsFar, HasTakenLines, IsFoundBy, IsLinesFault, IsWatchingFault}
 use Rattle.chi_watch_text.specs.Reading.{BeginsWith, GivesNext}
 use Rattle.chi_watch_text.specs.Written.{found_text}
 use Rattle.chi_watch_text.specs.declared.fault.LinesFault.{LinesFault}
@@ -22,7 +22,7 @@ use Rattle.chi_watch_text.proofs.KeptLines.{keeps_still, lines_kept_more, none_k
 use Rattle.chi_watch_text.proofs.Readings.{none_pending}
 use Rattle.chi_watch_text.proofs.RefusedLater.{found_refused, refused_fault}
 use Rattle.chi_watch_text.proofs.ToldTexts.{whole_front, at_fault, begun_more, but_at_fault, told_more}
-use Rattle.chi_watch_text.proofs.Told.{at_end, at_stop, event_taken, far_at_end, found_of, found_so_far, kept_at_fault, none_found, none_taken, no_fault, not_ok, passed_on, reached_by_found, settled, took, undecided_after, reached_all, reached_at_end}
+use Rattle.chi_watch_text.proofs.Told.{at_end, at_stop, event_taken, far_at_end, found_as, found_of, found_so_far, kept_at_fault, none_found, none_taken, no_fault, not_ok, passed_on, reached_by_found, settled, took, undecided_after, reached_all, reached_at_end, watched_as}
 use Rattle.chi_watch_text.proofs.Refused.{but_write, held_up, where_not_taken, where_refused}
 use Rattle.chi_watch_text.proofs.watching.watch_each.Goals as goal
 use Rattle.chi_search.specs.Looks.{for_verdict}
@@ -33,6 +33,7 @@ loop-init g c = record {
       c.requires.none c.new-quiet.ensures.items;
   once = λ i j d before below. absurd (let none = ap length c.requires.none in omega (arith, before, below, none));
   told = ([], ([], c.requires.untold));
+  shown = c.requires.shown;
   reached = subst (All (λ (f : FoundGranule). IsReachedBy (g.P.Progress.looked for_verdict) c.args.progress.now c.args.progress.now c.args.options.now.budget f.reach f.cut_short)) (sym c.requires.none)
       (All-nil (λ (f : FoundGranule). IsReachedBy (g.P.Progress.looked for_verdict) c.args.progress.now c.args.progress.now c.args.options.now.budget f.reach f.cut_short));
   written = subst (λ (l : List FoundGranule). Appends (g.W.Write.contents c.args.to.now) (g.W.Write.contents c.args.to.now) (flat_map (found_text c.args.options.now.answer) l)) (sym c.requires.none) (nothing_written (g.W.Write.contents c.args.to.now));
@@ -73,9 +74,10 @@ loop-preserved g c =
       taken = subst (λ (b : Bool). HasTakenLines (g.R.Read.remaining c.args.from.now) c.in-Some.event.time b c.judge_quiet.new.found.items c.take_line.new.quiet.items c.take_line.new.watch c.next_event.new.self (g.R.Read.remaining c.next_event.new.from)) (sym c.is_end-is_ended.ensures)
           (event_taken (g.R.Read.remaining c.args.from.now) (g.R.Read.remaining c.loop.from) (g.R.Read.remaining c.next_event.new.from) c.loop.time c.loop.is_ended c.judge_quiet.new.found.items c.judge_quiet.new.quiet.items
           c.take_line.new.quiet.items c.loop.watch c.take_line.new.watch c.loop.reading c.next_event.new.self c.in-Some.event c.in_ok-take_line.ensures.taken.seen settled_now gives c.next_event.ensures.format
-          c.in_ok-take_line.ensures.taken.takes c.in_ok-take_line.ensures.taken.notes);
+          c.in_ok-take_line.ensures.taken.takes c.in_ok-take_line.ensures.shown c.in_ok-take_line.ensures.taken.notes);
       once = c.in_ok-judge_quiet.ensures.once before.once;
       told = (before.told.0 ++ c.in-Some.event ∷ [], c.in_ok-take_line.ensures.taken.takes.taken before.told.0 before.told.1);
+      shown = c.in_ok-take_line.ensures.shown ∙ before.shown;
       reached = reached_all c.loop.watch (g.P.Progress.looked for_verdict) c.args.progress.now c.loop.progress c.judge_quiet.new.progress c.take_line.new.progress c.args.options.now.budget
           c.loop.found.items c.judge_quiet.new.found.items before.looked c.in_ok-judge_quiet.ensures.looked c.in_ok-take_line.ensures.looked before.told.0 before.told.1 c.in_ok-judge_quiet.ensures.reached before.reached;
       written = told_more (found_text c.args.options.now.answer) c.loop.found.items c.judge_quiet.new.found.items (g.W.Write.contents c.args.to.now) (g.W.Write.contents c.loop.to) (g.W.Write.contents c.judge_quiet.new.to) before.written c.in_ok-judge_quiet.ensures.told;
@@ -95,7 +97,7 @@ returns-then-stops-clause-watched g c =
     c.judge_quiet.new.found.items c.loop.quiet.items c.judge_quiet.new.quiet.items c.loop.watch c.loop.reading c.next_event.new.self c.in-Ok.next c.is_past-is_past.result before.taken (c.in-Ok.ensures.gives (g.R.Read.remaining c.args.from.now)) c.next_event.ensures.format c.is_past-is_past.ensures.past
     c.in_ok-judge_quiet.ensures.waits c.in_ok-judge_quiet.ensures.cleared c.in_ok-judge_quiet.ensures.each in
     let start = g.R.Read.remaining c.args.from.now in
-    subst (λ (k : LineFormat). IfSome start (λ text. IsWatched k text c.args.options.now.keep_going c.stopped.result)) before.format
+    watched_as start _ _ _ _ c.args.options.now.keep_going c.stopped.result before.format before.shown
     (at_stop start (g.R.Read.remaining c.loop.from) (g.R.Read.remaining c.next_event.new.from) c.loop.time c.loop.is_ended c.judge_quiet.new.found.items c.judge_quiet.new.quiet.items
     c.args.options.now.keep_going c.is_past-is_past.result c.loop.watch c.loop.reading c.next_event.new.self c.in-Ok.next c.loop.kept c.stopped.result settled_now (c.in-Ok.ensures.gives start) c.next_event.ensures.format
     c.is_past-is_past.ensures.past (λ is. none_pending c.loop.reading c.is_whole-is_whole.result c.is_whole-is_whole.ensures (c.is_past-is_past.ensures.whole is)) (c.in_ok-judge_quiet.ensures.once before.once)
@@ -113,7 +115,7 @@ returns-in_default-clause-watched g c =
     let gives = subst (λ (o : Option Event). GivesNext (g.R.Read.remaining c.args.from.now) c.loop.reading (g.R.Read.remaining c.loop.from) o c.next_event.new.self (g.R.Read.remaining c.next_event.new.from)) c.in_default.is (c.in-Ok.ensures.gives (g.R.Read.remaining c.args.from.now)) in
     let ended = c.in_ok-ended.ensures in
     let start = g.R.Read.remaining c.args.from.now in
-    subst (λ (k : LineFormat). IfSome start (λ text. IsWatched k text c.args.options.now.keep_going c.in_ok-ended.field-0)) before.format
+    watched_as start _ _ _ _ c.args.options.now.keep_going c.in_ok-ended.field-0 before.format before.shown
     (at_end start (g.R.Read.remaining c.loop.from) (g.R.Read.remaining c.next_event.new.from) c.loop.time c.loop.is_ended c.judge_quiet.new.found.items c.judge_quiet.new.quiet.items
     c.args.options.now.keep_going c.loop.watch c.loop.reading c.next_event.new.self c.loop.kept c.in_ok-ended.field-0 settled_now gives (c.in-Ok.ensures.whole c.in_default.is) (c.in_ok-judge_quiet.ensures.once before.once) first
     ended.told ended.ending ended.says ended.waiting before.kept)
@@ -187,25 +189,25 @@ returns-in_err-take_line-clause-fault g c =
 
 pub returns-in_err-judge_quiet-clause-found : goal.returns-in_err-judge_quiet-clause-found
 returns-in_err-judge_quiet-clause-found g c =
-    kept_at_fault (g.R.Read.remaining c.args.from.now) (λ text. All (IsFoundBy c.args.options.now.format text) c.judge_quiet.new.found.items) _
-    (subst (λ (k : LineFormat). IfSome (g.R.Read.remaining c.args.from.now) (λ text. All (IsFoundBy k text) c.judge_quiet.new.found.items)) c.loop.invariant.format
+    kept_at_fault (g.R.Read.remaining c.args.from.now) (λ text. All (IsFoundBy c.args.options.now.format text c.args.options.now.around) c.judge_quiet.new.found.items) _
+    (found_as (g.R.Read.remaining c.args.from.now) _ _ _ _ c.judge_quiet.new.found.items c.loop.invariant.format c.loop.invariant.shown
     (found_so_far (g.R.Read.remaining c.args.from.now) (g.R.Read.remaining c.loop.from) (g.R.Read.remaining c.next_event.new.from) c.loop.time c.loop.is_ended c.loop.found.items
     c.judge_quiet.new.found.items c.loop.quiet.items c.loop.watch c.loop.reading c.next_event.new.self c.in-Ok.next c.is_past-is_past.result c.loop.invariant.taken (c.in-Ok.ensures.gives (g.R.Read.remaining c.args.from.now)) c.next_event.ensures.format c.is_past-is_past.ensures.past
     (λ wait. (c.judge_quiet.ensures.waits wait).0) c.judge_quiet.ensures.each))
 
 pub returns-in_err-ended-clause-found : goal.returns-in_err-ended-clause-found
 returns-in_err-ended-clause-found g c =
-    kept_at_fault (g.R.Read.remaining c.args.from.now) (λ text. All (IsFoundBy c.args.options.now.format text) c.ended.new.found.items) _
-    (subst (λ (l : List FoundGranule). IfSome (g.R.Read.remaining c.args.from.now) (λ text. All (IsFoundBy c.args.options.now.format text) l)) (sym c.in_err-ended.ensures.kept)
-    (subst (λ (k : LineFormat). IfSome (g.R.Read.remaining c.args.from.now) (λ text. All (IsFoundBy k text) c.judge_quiet.new.found.items)) c.loop.invariant.format
+    kept_at_fault (g.R.Read.remaining c.args.from.now) (λ text. All (IsFoundBy c.args.options.now.format text c.args.options.now.around) c.ended.new.found.items) _
+    (subst (λ (l : List FoundGranule). IfSome (g.R.Read.remaining c.args.from.now) (λ text. All (IsFoundBy c.args.options.now.format text c.args.options.now.around) l)) (sym c.in_err-ended.ensures.kept)
+    (found_as (g.R.Read.remaining c.args.from.now) _ _ _ _ c.judge_quiet.new.found.items c.loop.invariant.format c.loop.invariant.shown
     (found_so_far (g.R.Read.remaining c.args.from.now) (g.R.Read.remaining c.loop.from) (g.R.Read.remaining c.next_event.new.from) c.loop.time c.loop.is_ended c.loop.found.items
     c.judge_quiet.new.found.items c.loop.quiet.items c.loop.watch c.loop.reading c.next_event.new.self c.in-Ok.next c.is_past-is_past.result c.loop.invariant.taken (c.in-Ok.ensures.gives (g.R.Read.remaining c.args.from.now)) c.next_event.ensures.format c.is_past-is_past.ensures.past
     (λ wait. (c.in_ok-judge_quiet.ensures.waits wait).0) c.in_ok-judge_quiet.ensures.each)))
 
 pub returns-in_err-take_line-clause-found : goal.returns-in_err-take_line-clause-found
 returns-in_err-take_line-clause-found g c =
-    kept_at_fault (g.R.Read.remaining c.args.from.now) (λ text. All (IsFoundBy c.args.options.now.format text) c.judge_quiet.new.found.items) _
-    (subst (λ (k : LineFormat). IfSome (g.R.Read.remaining c.args.from.now) (λ text. All (IsFoundBy k text) c.judge_quiet.new.found.items)) c.loop.invariant.format
+    kept_at_fault (g.R.Read.remaining c.args.from.now) (λ text. All (IsFoundBy c.args.options.now.format text c.args.options.now.around) c.judge_quiet.new.found.items) _
+    (found_as (g.R.Read.remaining c.args.from.now) _ _ _ _ c.judge_quiet.new.found.items c.loop.invariant.format c.loop.invariant.shown
     (found_so_far (g.R.Read.remaining c.args.from.now) (g.R.Read.remaining c.loop.from) (g.R.Read.remaining c.next_event.new.from) c.loop.time c.loop.is_ended c.loop.found.items
     c.judge_quiet.new.found.items c.loop.quiet.items c.loop.watch c.loop.reading c.next_event.new.self c.in-Ok.next c.is_past-is_past.result c.loop.invariant.taken (c.in-Ok.ensures.gives (g.R.Read.remaining c.args.from.now)) c.next_event.ensures.format c.is_past-is_past.ensures.past
     (λ wait. (c.in_ok-judge_quiet.ensures.waits wait).0) c.in_ok-judge_quiet.ensures.each))
@@ -254,7 +256,7 @@ pub returns-in-Err-clause-found : goal.returns-in-Err-clause-found
 returns-in-Err-clause-found g c =
     let start = g.R.Read.remaining c.args.from.now in
     let before = c.loop.invariant in
-    subst (λ (k : LineFormat). IfSome start (λ text. All (IsFoundBy k text) c.refused.new.found.items)) before.format
+    found_as start _ _ _ _ c.refused.new.found.items before.format before.shown
     (found_refused start (g.R.Read.remaining c.loop.from) c.loop.time c.loop.is_ended c.loop.found.items c.refused.new.found.items c.loop.quiet.items c.loop.watch c.loop.reading c.next_event.new.self
     c.in-Err.fault before.taken (c.in-Err.ensures.fault start) c.next_event.ensures.format c.refused.ensures.found)
 
@@ -268,8 +270,8 @@ returns-clause-found g c =
     let start = g.R.Read.remaining c.args.from.now in
     let before = c.loop.invariant in
     let ended : Result Watched LinesFault = Err fault.TooManyLines in
-    kept_at_fault start (λ text. All (IsFoundBy c.args.options.now.format text) c.loop.found.items) ended
-    (subst (λ (k : LineFormat). IfSome start (λ text. All (IsFoundBy k text) c.loop.found.items)) before.format
+    kept_at_fault start (λ text. All (IsFoundBy c.args.options.now.format text c.args.options.now.around) c.loop.found.items) ended
+    (found_as start _ _ _ _ c.loop.found.items before.format before.shown
     (found_of start (g.R.Read.remaining c.loop.from) c.loop.time c.loop.is_ended c.loop.found.items c.loop.quiet.items c.loop.watch c.loop.reading before.taken))
 
 pub returns-in_err-ended-clause-kept : goal.returns-in_err-ended-clause-kept

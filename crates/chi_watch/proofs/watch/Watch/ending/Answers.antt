@@ -16,7 +16,7 @@ use Rattle.chi_watch.specs.Reaching.{IsFoundAtEnd, IsFoundIn, IsReachedBy, IsRea
 use Rattle.chi_watch.specs.Undecided.{GoesOnAt, IsAsFarIn, IsExplainedAsFar, IsExplainedIn, IsExplainedTo, states_for, undecided_of}
 use Rattle.chi_watch.specs.Watches.{HasTaken, WatchValue, granule}
 use Rattle.chi_watch.specs.declared.ending.FoundAtEnd.{FoundAtEnd}
-use Rattle.chi_watch.specs.declared.followed.Followed.{Followed}
+use Rattle.chi_watch.specs.Followed.{FollowedValue}
 use Rattle.chi_watch.specs.declared.undecided.UndecidedAtEnd.{UndecidedAtEnd}
 use Rattle.chi_watch.proofs.ToldAtTheEnd.{own_open}
 use Rattle.chi_watch.proofs.AtTheEnd.{AreClosed, all_listed, ended_each, ended_explained, ended_explained_to, ended_far, ended_found, ended_reached, none_listed}
@@ -26,11 +26,11 @@ use Rattle.chi_watch.proofs.Reached.{reached_after, reached_then}
 use Rattle.chi_watch.proofs.watch.Watch.ending.Goals as goal
 
 -- the open requests' operations were told, where they could be
-abbrev Closes : WatchValue → (ℕ → Option Followed) → Type 0
+abbrev Closes : WatchValue → (ℕ → Option FollowedValue) → Type 0
 Closes w new = All (CanClose (granule w)) w.outstanding.requests → AreClosed w new
 
 -- so of the watch that is passed in, whose requests these are
-closes_of : (inside w : WatchValue) (requests : List Open) (new : ℕ → Option Followed) → inside ≡ w → requests ≡ inside.outstanding.requests
+closes_of : (inside w : WatchValue) (requests : List Open) (new : ℕ → Option FollowedValue) → inside ≡ w → requests ≡ inside.outstanding.requests
     → (All (CanClose (granule inside)) requests → (h : ℕ) → AreToldTo (own_open h requests) (granule inside h) (new h)) → Closes w new
 closes_of inside w requests new same all told =
     subst (λ (v : WatchValue). Closes v new) same
@@ -85,8 +85,8 @@ returns-clause-unexplained g c =
     let are_open = subst (λ (w : WatchValue). All (IsOpen w.outstanding.time) w.outstanding.requests) c.self.view_is c.requests.ensures.are_open in
     let un = c.in_ok-listed.listed.unexplained.items in
     let same : granules_of c.in_ok-found.found.items ≡ un = c.in_ok-found.ensures.granules ∙ c.deref-2.ensures.value in
-    All-permutation (λ (f : FoundAtEnd). (events : List Event) → HasTaken events c.args.self → IsFoundAtEnd events f) c.in_ok-found.found.items c.in_ok-unexplained.unexplained.items c.in_ok-unexplained.ensures.same
-    (all_listed (λ (f : FoundAtEnd). f.granule) (λ h. IsInexplicableAt (new h)) (IsFoundIn new) (λ (f : FoundAtEnd). (events : List Event) → HasTaken events c.args.self → IsFoundAtEnd events f) c.in_ok-found.found.items un same c.in_ok-listed.ensures.unexplained
+    All-permutation (λ (f : FoundAtEnd). (events : List Event) → HasTaken events c.args.self → IsFoundAtEnd c.args.self.shown events f) c.in_ok-found.found.items c.in_ok-unexplained.unexplained.items c.in_ok-unexplained.ensures.same
+    (all_listed (λ (f : FoundAtEnd). f.granule) (λ h. IsInexplicableAt (new h)) (IsFoundIn new) (λ (f : FoundAtEnd). (events : List Event) → HasTaken events c.args.self → IsFoundAtEnd c.args.self.shown events f) c.in_ok-found.found.items un same c.in_ok-listed.ensures.unexplained
     c.in_ok-found.ensures.found (ended_found c.operations_are_told.ensures c.parts_explain.ensures c.args.self new are_open closes))
 
 pub returns-clause-reached : goal.returns-clause-reached

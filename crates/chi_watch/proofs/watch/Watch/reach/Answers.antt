@@ -1,6 +1,6 @@
 -- What is kept of a granule that can be judged says how far its operations can be explained.
 use Rattle.std.specs.Prelude.{is_none}
-use Rattle.std.proofs.Common.{◌≡◌, ℕ, List, All, Option, Some, None, is_some, true, sym, subst, ◌∙◌, true≢false}
+use Rattle.std.proofs.Common.{◌≡◌, ℕ, List, All, Option, Some, None, is_some, true, sym, subst, ◌∙◌, true≢false, ap}
 use Rattle.std.proofs.lemmas.Result.{IfOk-weaker}
 use Rattle.chi_events.specs.Outstanding.{IsOpen}
 use Rattle.chi_events.specs.declared.event.Event.{Event}
@@ -30,30 +30,30 @@ returns-in_default-clause-undecided g c can events has not =
 pub returns-then-is_some-clause-undecided : goal.returns-then-is_some-clause-undecided
 returns-then-is_some-clause-undecided g c can events has not =
     let w = c.args.self.now in
-    let f = c.in-Some.followed.now in
+    let f = c.in-Some.kept.now in
     let here : granule w c.args.granule ≡ Some f = subst (λ (v : WatchValue). granule v c.args.granule ≡ Some f) c.self.view_is (sym c.in-Some.ensures.value) in
     let known = unexplained_known events w has c.args.granule f here not in
     elim c.then-is_some.branch [
-      | then-is_some-via-then-is_some b ↦ absurd (some_time f.unknown_since (sym c.is_some.ensures ∙ b.if-is_some.true) known)
+      | then-is_some-via-then-is_some b ↦ absurd (some_time f.unknown_since (ap is_some (sym c.unknown_since.ensures) ∙ (sym c.is_some.ensures ∙ b.if-is_some.true)) known)
       | then-is_some-via-else-is_some+then-not-can_be_judged b ↦ absurd (can_not w c.args.granule f here (sym b.can_be_judged.ensures ∙ b.if-not-can_be_judged.true) can)
     ]
 
 pub returns-clause-right : goal.returns-clause-right
 returns-clause-right g c =
     let w = c.args.self.now in
-    let f = c.in-Some.followed.now in
+    let f = c.in-Some.kept.now in
     let n = c.args.granule in
     let are_open = subst (λ (v : WatchValue). All (IsOpen v.outstanding.time) v.outstanding.requests) c.self.view_is c.count-count.ensures.are_open in
     let here : granule w n ≡ Some f = subst (λ (v : WatchValue). granule v n ≡ Some f) c.self.view_is (sym c.in-Some.ensures.value) in
     let can = can_be w n f here (sym c.can_be_judged.ensures ∙ c.if-not-can_be_judged.false) in
-    IfOk-weaker c.reach_of.result (λ (found : FoundReach). ReachesBy f.judge found.reach) (λ (found : FoundReach). (events : List Event) → HasTaken events w → IsReach events n found.reach)
-    (λ found by events has. by (shown_here events w has n f here) (judged events) n (word_or_zero (openings events) n) (judged_here c.operations_are_told.ensures events w are_open has n f here can))
+    IfOk-weaker c.reach_of.result (λ (found : FoundReach). ReachesBy f.judge found.reach) (λ (found : FoundReach). (events : List Event) → HasTaken events w → IsReach w.shown events n found.reach)
+    (λ found by events has. subst (λ (most : ℕ). IsReach most events n found.reach) (shown_here events w has n f here) (by (judged events) n (word_or_zero (openings events) n) (judged_here c.operations_are_told.ensures events w are_open has n f here can)))
     c.reach_of.ensures.right
 
 pub returns-clause-undecided : goal.returns-clause-undecided
 returns-clause-undecided g c =
     let w = c.args.self.now in
-    let f = c.in-Some.followed.now in
+    let f = c.in-Some.kept.now in
     let n = c.args.granule in
     let are_open = subst (λ (v : WatchValue). All (IsOpen v.outstanding.time) v.outstanding.requests) c.self.view_is c.count-count.ensures.are_open in
     let here : granule w n ≡ Some f = subst (λ (v : WatchValue). granule v n ≡ Some f) c.self.view_is (sym c.in-Some.ensures.value) in

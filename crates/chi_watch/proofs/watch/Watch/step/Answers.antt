@@ -12,7 +12,7 @@ use Rattle.chi_watch.proofs.watch.Watch.step.Goals as goal
 pub returns-clause-taken : goal.returns-clause-taken
 returns-clause-taken g c events ended before =
     let e = c.args.event.now in
-    let w : WatchValue = record { outstanding = c.self.inside.outstanding; granules = c.self.inside.granules.entries; ended = c.self.inside.ended } in
+    let w : WatchValue = record { outstanding = c.self.inside.outstanding; granules = c.self.inside.granules.entries; ended = c.self.inside.ended; shown = c.self.inside.shown } in
     let was : Watches events ended w = subst (Watches events ended) (sym c.self.view_is) before in
     let fits : granule_fault w e.time e.kind ≡ None = subst (λ (v : WatchValue). granule_fault v e.time e.kind ≡ None) (sym c.self.view_is) c.in_ok-admits.ensures.fits in
     let later : w.outstanding.time ≤ e.time =

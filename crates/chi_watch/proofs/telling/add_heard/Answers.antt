@@ -6,7 +6,7 @@ use Rattle.chi_trace.specs.declared.operation.Operation.{Operation}
 use Rattle.chi_judge.specs.Judges.{CanBeKept, Keeps}
 use Rattle.chi_judge.specs.Until.{until}
 use Rattle.chi_watch.proofs.JudgedParts.{heard_is}
-use Rattle.chi_watch.proofs.followed.add_heard.Goals as goal
+use Rattle.chi_watch.proofs.telling.add_heard.Goals as goal
 
 pub returns-in_ok-add-clause-heard : goal.returns-in_ok-add-clause-heard
 returns-in_ok-add-clause-heard g c can =

@@ -6,7 +6,7 @@ use Rattle.chi_judge.specs.Judges.{CanBeKept, Keeps}
 use Rattle.chi_judge.proofs.Keeping.{keeps_later}
 use Rattle.chi_watch.specs.WordsTold.{write_at}
 use Rattle.chi_watch.proofs.Writes.{IsWriteOf, written}
-use Rattle.chi_watch.proofs.followed.add_write.Goals as goal
+use Rattle.chi_watch.proofs.telling.add_write.Goals as goal
 
 pub returns-in_ok-add : goal.returns-in_ok-add
 returns-in_ok-add c =
