@@ -92,6 +92,11 @@ def granules(count):
     return lines([event for it in range(count) for event in watched(it, 2 * it, it, 0)]), ["watch"]
 
 
+def settled(count):
+    """The same, of which nothing is to be shown: a granule that is settled is kept as its word."""
+    return lines([event for it in range(count) for event in watched(it, 2 * it, it, 0)]), ["watch", "--around", "0"]
+
+
 def usual(count):
     """Operations on 64 granules, one after the other."""
     return trace([addition(it % 64, it // 64, 10 * it, end=10 * it + 5) for it in range(count)]), ["explain"]
@@ -104,7 +109,7 @@ def still_open(count):
 
 # The exponent of instructions that a row may have at most.
 MOST = 1.1
-ROWS = [around, page, first, hanging, hanging_watched, outstanding, granules, usual, still_open]
+ROWS = [around, page, first, hanging, hanging_watched, outstanding, granules, settled, usual, still_open]
 
 
 def exponent(least, most):

@@ -3,7 +3,8 @@
 
 Each history is told as events (histories.py). What has to be answered on them, with and without --keep-going, is found by
 trying every order (telling.py, orders.py): which granules are not explained, by which line, and where each stops being so.
-`chicheck explain` has to give the same verdict on the same operations, told as a trace and as events, and of each such granule by
+With --around 0, where settled granules are kept as their words, the same has to be said but for what is shown of them. `chicheck explain`
+has to give the same verdict on the same operations, told as a trace and as events, and of each such granule by
 itself it has to say the same and to show the same operations; each of these has to have the line that told its request. Which bytes
 are wrong and who wrote them last is compared with the other lines (written.py), and whether a legal response explains the granule to
 its end with every order of it (to_the_end.py). A history that the program disagrees on is shown. With `prefixes` each is the beginning
@@ -33,6 +34,8 @@ CHOSEN = prefix if sys.argv[3:] == ["prefixes"] else history
 SHOWN = 3
 # How many operations are shown at most before the one that is blamed.
 SHOWN_BEFORE = 16
+# Of so many operations that ended, and more, none may be kept any longer, so that no order of them is shown.
+MANY = 16
 # The status where an event is refused.
 REFUSED = 3
 # How the lines of a granule's last operations begin, and what stands in one of them.
@@ -102,11 +105,12 @@ def rows_by_granule(answer):
 
 def is_right_order(lines, before):
     """Whether the order among a granule's lines is how one ends that explains what is known before it stops being explained, up to
-    that time. There is none where no operation had ended by then."""
+    that time. There is none where no operation had ended by then, and there may be none where many had."""
     told = next(filter(None, map(ORDER.fullmatch, lines)), None)
     numbers = [int(it) for it in told[2].split()] if told else []
     times = [it for it in lines if told and it.startswith(f"  explained up to {told[1]}")]
-    return is_end_of_order(*before, numbers) and bool(times) == bool(told) and (bool(told) or all(it.reply is None for it in before[1]))
+    ended = sum(it.reply is not None for it in before[1])
+    return is_end_of_order(*before, numbers) and bool(times) == bool(told) and (bool(told) or ended == 0 or ended >= MANY)
 
 
 def lines_by_granule(answer):
@@ -160,6 +164,7 @@ def unexplained_as_a_whole(told):
 def disagreements(events):
     """What the program answers otherwise than it has to: the words, the answer, and the one that has to be."""
     found = []
+    alone = run("watch --keep-going --around 0".split(), lines_of(events))
     for words, keeps_going in [("watch", False), ("watch --keep-going", True)]:
         answer = run(words.split(), lines_of(events))
         watched = Watched(events, keeps_going, lines_by_granule(answer[1]))
@@ -177,6 +182,8 @@ def disagreements(events):
             bytes_wanted = wanted_lines(its, {it.number: it for it in watched.before[granule][1]})
             if told_lines(its) != bytes_wanted:
                 found.append((f"bytes of {granule:016x} of {words}", answer, bytes_wanted))
+    if (alone[0], without_rows(alone[1].splitlines())) != (answer[0], without_rows(lines)):
+        found.append(("watch --keep-going --around 0", alone, answer))
     rows = rows_by_granule(answer[1])
     for granule, lines in watched.stops.items():
         answer = run(["explain"], json.dumps(watched.traces[granule]))
