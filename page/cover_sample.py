@@ -35,11 +35,11 @@ def names():
 
 
 def coverage(count_of, refused=(), goal=1):
-    """What is covered at a goal where each bin, by its name, has this count, and requests were refused for these reasons."""
+    """What one input covers at a goal where each bin, by its name, has this count, and requests were refused for these reasons."""
     groups = [{"name": group, "bins": [[name, str(count_of(name))] for name in bins]} for group, bins in names().items()]
     covered = sum(1 for group in groups for bin in group["bins"] if int(bin[1]) >= goal)
     return {"covered": str(covered), "bins": "1410", "percent": str(covered * 100 // 1410), "goal": str(goal),
-            "groups": groups, "refused": [[reason, str(refused.count(reason))] for reason in REASONS]}
+            "added": [str(covered)], "groups": groups, "refused": [[reason, str(refused.count(reason))] for reason in REASONS]}
 
 
 def small():

@@ -6,6 +6,7 @@ import os
 import random
 import sys
 import tempfile
+from collections import Counter
 
 os.chdir(f"{os.path.dirname(os.path.abspath(__file__))}/..")
 sys.dont_write_bytecode = True
@@ -138,6 +139,30 @@ def met_as_defined():
         told(f"met: {number}: {bins}", {name: int(count) for name, count in bins if count != "0"} == met(json.loads(text)))
 
 
+def counts_alone(file):
+    """How many operations of a file alone each bin counts."""
+    groups = json.loads(run(CHECKER, ["cover", "--format", "json", file], b"")[1])["groups"]
+    return {(group["name"], name): int(count) for group in groups for name, count in group["bins"]}
+
+
+def added():
+    """What each file added: how many bins are covered with it that were not before it, in the order of the files."""
+    two, lost, swaps = files = [f"examples/traces/{it}.json" for it in ("two_adds", "lost_update", "overlapping_swaps")]
+    alone = {file: counts_alone(file) for file in files}
+    for goal in (0, 1, 2, 3):
+        for files in [two], [two, two], [two, lost, swaps], [swaps, two, lost], [lost, lost, two]:
+            covered = [sum(sum(alone[file][it] for file in files[:place]) >= goal for it in alone[two]) for place in range(len(files) + 1)]
+            wanted = [with_it - before for before, with_it in zip(covered, covered[1:])]
+            words = ["cover", "--goal", str(goal), *files]
+            found = json.loads(run(CHECKER, [*words, "--format", "json"], b"")[1])["added"]
+            told(f"added: {words}: {found} and not {wanted}", found == [*map(str, wanted)])
+            lines = run(CHECKER, words, b"")[1].decode().splitlines()
+            last = [f"added by {file}: {number}" for file, number in zip(files, wanted)] if len(files) > 1 else []
+            told(f"added: {words}: {lines[-3:]}", [it for it in lines if it.startswith("added")] == last == lines[len(lines) - len(last) :])
+    twice = run(CHECKER, ["cover", two, two], b"")[1]
+    told(f"added: by a file twice: {twice[-100:]}", twice.endswith(f"added by {two}: 7\nadded by {two}: 0\n".encode()))
+
+
 def refusals_of(reasons):
     """The lines of the table of requests that were refused for these reasons."""
     lines = [f"refusals: {len(set(reasons))} of 6", *(f"{it}: {reasons.count(it)}" for it in REASONS)]
@@ -169,7 +194,7 @@ def inputs(folder):
             file.write(trace([*map(refused_request, reasons), *adds(1)], 2))
     table = counted("refusals of files", refused, b"", ["AtomicLoad.ADD little 8: 0 3"])
     of_files = refusals_of(["Misaligned", "Misaligned", "BadByteEnable", "BadByteEnable"])
-    told("refusals of files: added up", table.decode().splitlines()[-11:] == of_files)
+    told("refusals of files: added up", table.decode().splitlines()[-14:-3] == of_files)
     for words, text in [(["--events"], None), (["--events", "examples/events/two_adds.jsonl"], b"")]:
         with open("examples/events/two_adds.jsonl", "rb") as file:
             table = counted(f"events: {words}", words, file.read() if text is None else text, COVERED)
@@ -200,6 +225,7 @@ counts()
 goals()
 counts_as_json()
 met_as_defined()
+added()
 with tempfile.TemporaryDirectory() as folder:
     inputs(folder)
 end(400)

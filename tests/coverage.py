@@ -36,13 +36,18 @@ def missing_of(counts, goal):
     return [f"missing: {name}" + ("" if count == "0" else f": {count} of {goal}") for name, count in counts if int(count) < goal]
 
 
-def text_of(it):
-    """The text that says what this JSON does."""
+def added_of(it, files):
+    """The lines of how many bins each file added, where there are two or more."""
+    return [f"added by {file}: {number}" for file, number in zip(files, it["added"], strict=True)] if len(files) > 1 else []
+
+
+def text_of(it, files):
+    """The text that says what this JSON of these files does."""
     groups, refused, goal = it["groups"], it["refused"], int(it["goal"])
     least = "" if goal == 1 else f", each at least {goal}"
     lines = [line for group in groups for line in rows_of(group, goal)]
     lines += [f"covered: {it['covered']} of {it['bins']} ({it['percent']}%){least}", *(line for group in groups for line in missing_of(group["bins"], goal))]
-    lines += [head_of("refusals", refused, 1), *(f"{name}: {count}" for name, count in refused), *missing_of(refused, 1)]
+    lines += [head_of("refusals", refused, 1), *(f"{name}: {count}" for name, count in refused), *missing_of(refused, 1), *added_of(it, files)]
     return "".join(f"{line}\n" for line in lines)
 
 
@@ -50,4 +55,5 @@ def counted_as_json(case, words, text):
     """What is counted has the same status as JSON, and its text can be made of that."""
     written, found = run(CHECKER, words, text), run(CHECKER, [*words, "--format", "json"], text)
     told(f"{case} as JSON: {found}", found[0] == written[0] and found[1].count(b"\n") == 1 and found[1].endswith(b"\n") and not found[2])
-    told(f"{case} as JSON: {found[1]} beside {written[1]}", text_of(json.loads(found[1])) == written[1].decode())
+    files = [it for it in words if it.endswith((".json", ".jsonl"))]
+    told(f"{case} as JSON: {found[1]} beside {written[1]}", text_of(json.loads(found[1]), files) == written[1].decode())

@@ -8,11 +8,12 @@ use Rattle.std.proofs.lemmas.List.Sums.{sum_by_push}
 use Rattle.std.proofs.lemmas.Option.{slice_get-get_or, slice_get-map}
 use Rattle.chi_fields.specs.declared.refusal.Refusal.{Refusal}
 use Rattle.chi_cover.specs.declared.bin.Bin.{Bin}
-use Rattle.chi_cover.specs.Counts.{count_in, count_of, most}
+use Rattle.chi_cover.specs.Counts.{IsAdded, count_in, count_of, most}
 use Rattle.chi_cover.specs.Refusals.{refused_in, refused_times}
 use Rattle.chi_watch_text.specs.declared.line_format.LineFormat.{LineFormat}
 use Rattle.chi_check.specs.Check.{most_bytes}
-use Rattle.chi_check.specs.Cover.{Adds, AddsFile, AreCounted, AreFilesFault, AreHeld, AreOf, AreOfEach, AreOfFiles, Told, IsFileFault}
+use Rattle.chi_check.specs.Cover.{Adds, AddsFile, AreCounted, AreCounts, AreFilesFault, AreHeld, AreOf, AreOfEach, AreOfFiles, Told, IsFileFault, added_after}
+use Rattle.chi_check.proofs.AddedLemmas.{added_more}
 use Rattle.chi_check.specs.declared.inputs.Counted.{Counted}
 use Rattle.chi_check.specs.declared.fault.CheckFault.TheVariants.{File}
 use Rattle.chi_check.specs.declared.fault.SourceFault.{SourceFault}
@@ -21,11 +22,13 @@ use Rattle.chi_check.specs.declared.fault.SourceFault.{SourceFault}
 pub record AreNone (counted : Counted) : Type 0 where
   pub covered : (bin : Bin) → count_in counted.covered bin ≡ 0
   pub refused : (reason : Refusal) → refused_in counted.refusals reason ≡ 0
+  pub added : counted.added.items ≡ []
 
 -- no input was counted
-none_counted : (lines : Option LineFormat) (counted : Counted) → AreNone counted → AreCounted lines [] counted
-unfolding AreOfEach
-none_counted lines counted none = record { told = []; of = tt; are = λ bin is. none.covered bin ∙ refl; refused = λ reason. none.refused reason ∙ refl }
+none_counted : (goal : ℕ) (lines : Option LineFormat) (counted : Counted) → AreNone counted → AreCounted goal lines [] counted
+unfolding AreOfEach added_after
+none_counted goal lines counted none =
+    record { told = []; of = tt; are = λ bin is. none.covered bin ∙ refl; refused = λ reason. none.refused reason ∙ refl; added = none.added }
 
 of_more : (lines : Option LineFormat) (inputs : List (List ℕ)) (told : List Told) (input : List ℕ) (one : Told) → AreOfEach lines inputs told → length input ≤ most_bytes
     → AreOf lines input one.operations one.refusals → AreOfEach lines (inputs ++ input ∷ []) (told ++ one ∷ [])
@@ -39,30 +42,35 @@ of_more lines (i ∷ inputs) (t ∷ told) input one (short, here, of) within is 
 two_sums : (b c x y top : ℕ) → b ≡ min x top → c ≡ min (b + y) top → c ≡ min (x + y) top
 two_sums b c x y top first next = omega arith
 
+-- the counts of one input more
+counts_more : (told : List Told) (one : Told) (old new : List ℕ) → AreCounts told old → IsAdded one.operations old new → AreCounts (told ++ one ∷ []) new
+counts_more told one old new are added bin here =
+    let sum = λ (t : Told). count_of t.operations bin in
+    two_sums (count_in old bin) (count_in new bin) (sum_by sum told) (count_of one.operations bin) most (are bin here) (added bin here) ∙ ap (λ n. min n most) (sym (sum_by_push sum told one))
+
 -- one input more
-counted_more : (lines : Option LineFormat) (inputs : List (List ℕ)) (input : List ℕ) (old new : Counted) → length input ≤ most_bytes → AreCounted lines inputs old → Adds lines input old new
-    → AreCounted lines (inputs ++ input ∷ []) new
-counted_more lines inputs input old new within counted (ops, refusals, is, added, refused) =
+counted_more : (goal : ℕ) (lines : Option LineFormat) (inputs : List (List ℕ)) (input : List ℕ) (old new : Counted) → length input ≤ most_bytes → AreCounted goal lines inputs old
+    → Adds goal lines input old new → AreCounted goal lines (inputs ++ input ∷ []) new
+counted_more goal lines inputs input old new within counted (ops, refusals, is, adds) =
     let one : Told = record { operations = ops; refusals = refusals } in
+    let are : AreCounts (counted.told ++ one ∷ []) new.covered = counts_more counted.told one old.covered new.covered counted.are adds.covered in
     record {
       told = counted.told ++ one ∷ [];
       of = of_more lines inputs counted.told input one counted.of within is;
-      are = λ bin here.
-          let sum = λ (t : Told). count_of t.operations bin in
-          two_sums (count_in old.covered bin) (count_in new.covered bin) (sum_by sum counted.told) (count_of ops bin) most (counted.are bin here) (added bin here)
-          ∙ ap (λ n. min n most) (sym (sum_by_push sum counted.told one));
+      are = are;
       refused = λ reason.
           let sum = λ (t : Told). refused_times t.refusals reason in
-          two_sums (refused_in old.refusals reason) (refused_in new.refusals reason) (sum_by sum counted.told) (refused_times refusals reason) most (counted.refused reason) (refused reason)
+          two_sums (refused_in old.refusals reason) (refused_in new.refusals reason) (sum_by sum counted.told) (refused_times refusals reason) most (counted.refused reason) (adds.refused reason)
           ∙ ap (λ n. min n most) (sym (sum_by_push sum counted.told one));
+      added = added_more goal counted.told one old.covered new.covered old.added.items new.added.items counted.are are counted.added adds.added;
     }
 
 -- where nothing was counted before, it is what the input tells
-pub one_counted : (lines : Option LineFormat) (input : List ℕ) (old new : Counted) → AreNone old → length input ≤ most_bytes → Adds lines input old new
-    → AreCounted lines (input ∷ []) new
-one_counted lines input old new none within adds = counted_more lines [] input old new within (none_counted lines old none) adds
+pub one_counted : (goal : ℕ) (lines : Option LineFormat) (input : List ℕ) (old new : Counted) → AreNone old → length input ≤ most_bytes → Adds goal lines input old new
+    → AreCounted goal lines (input ∷ []) new
+one_counted goal lines input old new none within adds = counted_more goal lines [] input old new within (none_counted goal lines old none) adds
 
-module _ (holds : List ℕ → List ℕ → Type 0) (lines : Option LineFormat) where
+module _ (holds : List ℕ → List ℕ → Type 0) (goal : ℕ) (lines : Option LineFormat) where
   held_more : (paths inputs : List (List ℕ)) (path input : List ℕ) → AreHeld holds paths inputs → holds path input → AreHeld holds (paths ++ path ∷ []) (inputs ++ input ∷ [])
   unfolding AreHeld
   held_more [] [] path input held is = (is, tt)
@@ -71,22 +79,22 @@ module _ (holds : List ℕ → List ℕ → Type 0) (lines : Option LineFormat) 
   held_more (p ∷ paths) (i ∷ inputs) path input (here, held) is = (here, held_more paths inputs path input held is)
 
   -- no file was counted
-  pub no_file : (counted : Counted) → AreNone counted → AreOfFiles holds lines [] counted
+  pub no_file : (counted : Counted) → AreNone counted → AreOfFiles holds goal lines [] counted
   unfolding AreHeld
-  no_file counted none = ([], tt, none_counted lines counted none)
+  no_file counted none = ([], tt, none_counted goal lines counted none)
 
   -- one file more
-  pub file_more : (paths : List (List ℕ)) (path : List ℕ) (old new : Counted) → AreOfFiles holds lines paths old → AddsFile holds lines path old new
-      → AreOfFiles holds lines (paths ++ path ∷ []) new
+  pub file_more : (paths : List (List ℕ)) (path : List ℕ) (old new : Counted) → AreOfFiles holds goal lines paths old → AddsFile holds goal lines path old new
+      → AreOfFiles holds goal lines (paths ++ path ∷ []) new
   file_more paths path old new (inputs, held, counted) (input, is, within, adds) =
-      (inputs ++ input ∷ [], held_more paths inputs path input held is, counted_more lines inputs input old new within counted adds)
+      (inputs ++ input ∷ [], held_more paths inputs path input held is, counted_more goal lines inputs input old new within counted adds)
 
   pub next_file : (files : List (Bor (List ℕ))) (n : ℕ) (d : Bor (List ℕ)) (old new : Counted) → n < length files
-      → AreOfFiles holds lines (map (λ path. path.now) (take n files)) old → AddsFile holds lines (get_or files n d).now old new
-      → AreOfFiles holds lines (map (λ path. path.now) (take (n + 1) files)) new
+      → AreOfFiles holds goal lines (map (λ path. path.now) (take n files)) old → AddsFile holds goal lines (get_or files n d).now old new
+      → AreOfFiles holds goal lines (map (λ path. path.now) (take (n + 1) files)) new
   next_file files n d old new below are adds =
       let text = λ (path : Bor (List ℕ)). path.now in
-      subst (λ (l : List (List ℕ)). AreOfFiles holds lines l new) (sym (ap (map text) (take_more files n d below) ∙ map_push text (take n files) (get_or files n d)))
+      subst (λ (l : List (List ℕ)). AreOfFiles holds goal lines l new) (sym (ap (map text) (take_more files n d below) ∙ map_push text (take n files) (get_or files n d)))
       (file_more (map text (take n files)) (get_or files n d).now old new are adds)
 
   -- a file was not counted
@@ -97,7 +105,7 @@ module _ (holds : List ℕ → List ℕ → Type 0) (lines : Option LineFormat) 
       ((get_or files n d).now, slice_get-map text files n ∙ ap (option_map text) (slice_get-get_or files n d below), is)
 
 -- the counts are those of the input
-pub input_counted : (lines : Option LineFormat) (remaining : Option (List ℕ)) (input : List ℕ) (counts : Counted) → IfSome remaining (λ bytes. input ≡ bytes) → AreCounted lines (input ∷ []) counts
-    → IfSome remaining (λ bytes. AreCounted lines (bytes ∷ []) counts)
-input_counted lines None input counts same is = tt
-input_counted lines (Some bytes) input counts same is = subst (λ (l : List ℕ). AreCounted lines (l ∷ []) counts) same is
+pub input_counted : (goal : ℕ) (lines : Option LineFormat) (remaining : Option (List ℕ)) (input : List ℕ) (counts : Counted) → IfSome remaining (λ bytes. input ≡ bytes)
+    → AreCounted goal lines (input ∷ []) counts → IfSome remaining (λ bytes. AreCounted goal lines (bytes ∷ []) counts)
+input_counted goal lines None input counts same is = tt
+input_counted goal lines (Some bytes) input counts same is = subst (λ (l : List ℕ). AreCounted goal lines (l ∷ []) counts) same is

@@ -1,5 +1,5 @@
--- what a count does: it writes what the operations covered that its inputs tell, and how many requests were refused
-use Rattle.std.specs.Prelude.{◌≡◌, ◌≢◌, ℕ, ◌<◌, ◌≤◌, List, [], ◌∷◌, ◌++◌, Contains, length, map, min, slice_get, sum_by, is_some, Option, None, Some, IfSome, IsSomeAnd, IsTrue, Result, Ok, Err}
+-- what a count does: it writes what the operations covered that its inputs tell, what each input added, and how many requests were refused
+use Rattle.std.specs.Prelude.{◌≡◌, ◌≢◌, ℕ, ◌-◌, ◌<◌, ◌≤◌, List, [], ◌∷◌, ◌++◌, Contains, length, map, min, slice_get, sum_by, is_some, Option, None, Some, IfSome, IsSomeAnd, IsTrue, Result, Ok, Err}
 use Rattle.std.specs.Io.KnownBytes.{Appends}
 use Rattle.chi_script.specs.WriterBytes.{AppendsFront}
 use Rattle.chi_fields.specs.declared.refusal.Refusal.{Refusal}
@@ -10,8 +10,9 @@ use Rattle.chi_reading.specs.TraceText.{IsOf, RecordedValue, TextValue, trace_te
 use Rattle.chi_watch_text.specs.Operations.{AreOperations, AreRefusals, IsOperationsFault}
 use Rattle.chi_watch_text.specs.declared.line_format.LineFormat.{LineFormat}
 use Rattle.chi_cover.specs.declared.bin.Bin.{Bin}
+use Rattle.chi_cover.specs.AddedLines.{added_lines}
 use Rattle.chi_cover.specs.Bins.{all_bins}
-use Rattle.chi_cover.specs.Counts.{IsAdded, count_in, count_of, most, percent_of}
+use Rattle.chi_cover.specs.Counts.{IsAdded, count_in, count_of, covered_of, most, percent_of}
 use Rattle.chi_cover.specs.Json.{cover_json}
 use Rattle.chi_cover.specs.Page.{page_text}
 use Rattle.chi_cover.specs.Refusals.{AreRefused, refusals_text, refused_in, refused_times}
@@ -67,36 +68,57 @@ AreOfEach lines [] [] = Unit {0}
 AreOfEach lines (input ∷ inputs) (told ∷ others) = (length input ≤ most_bytes) × AreOf lines input told.operations told.refusals × AreOfEach lines inputs others
 AreOfEach lines inputs others = ⊥
 
--- each bin's count is how many operations of these inputs it counts, and the greatest count stands for that many and more
+-- how many operations of these inputs a bin counts, and the greatest count stands for that many and more
+abbrev pub counts_of : List Told → Bin → ℕ
+counts_of told bin = min (sum_by (λ t. count_of t.operations bin) told) most
+
+-- each bin's count is that
 abbrev pub AreCounts : List Told → List ℕ → Type 0
-AreCounts told counts = (bin : Bin) → Contains all_bins bin → count_in counts bin ≡ min (sum_by (λ t. count_of t.operations bin) told) most
+AreCounts told counts = (bin : Bin) → Contains all_bins bin → count_in counts bin ≡ counts_of told bin
 
 -- so is each reason's of the requests of these inputs that were refused for it
 abbrev pub AreRefusalCounts : List Told → List ℕ → Type 0
 AreRefusalCounts told counts = (reason : Refusal) → refused_in counts reason ≡ min (sum_by (λ t. refused_times t.refusals reason) told) most
 
--- these are the counts of what these inputs tell
-pub record AreCounted (lines : Option LineFormat) (inputs : List (List ℕ)) (counted : Counted) : Type 0 where
+-- how many bins are covered by these inputs
+abbrev pub covered_by : ℕ → List Told → ℕ
+covered_by goal told = covered_of goal (counts_of told) all_bins
+
+-- How many bins each further input added: how many are covered by the inputs up to it and with it, less how many are covered by those
+-- before it.
+unfoldable pub added_after : ℕ → List Told → List Told → List ℕ
+added_after goal before [] = []
+added_after goal before (told ∷ others) = (covered_by goal (before ++ told ∷ []) - covered_by goal before) ∷ added_after goal (before ++ told ∷ []) others
+
+-- how many bins each input added
+abbrev pub added_of : ℕ → List Told → List ℕ
+added_of goal told = added_after goal [] told
+
+-- these are the counts of what these inputs tell, and of how many bins each added
+pub record AreCounted (goal : ℕ) (lines : Option LineFormat) (inputs : List (List ℕ)) (counted : Counted) : Type 0 where
   pub told : List Told
   pub of : AreOfEach lines inputs told
   pub are : AreCounts told counted.covered
   pub refused : AreRefusalCounts told counted.refusals
+  pub added : counted.added.items ≡ added_of goal told
 
--- the text of counts: the table of what was covered, each bin by so many operations, and how many requests were refused
-abbrev pub cover_text : ℕ → Counted → List ℕ
-cover_text goal counted = table_text goal (count_in counted.covered) ++ refusals_text (refused_in counted.refusals)
+-- the text of counts: the table of what was covered, each bin by so many operations, how many requests were refused, and what each of the
+-- files added where two or more are named
+abbrev pub cover_text : CoverOptions → Counted → List ℕ
+cover_text options counted =
+    table_text options.goal (count_in counted.covered) ++ (refusals_text (refused_in counted.refusals) ++ added_lines counted.added.items (paths_of options))
 
 -- the JSON of counts
 abbrev pub json_of : ℕ → Counted → List ℕ
-json_of goal counted = cover_json goal (count_in counted.covered) (refused_in counted.refusals)
+json_of goal counted = cover_json goal counted.added.items (count_in counted.covered) (refused_in counted.refusals)
 
 -- what is written of counts, in the form that is asked for
-abbrev pub written_in : AnswerFormat → ℕ → Counted → List ℕ
-written_in Text goal counted = cover_text goal counted
-written_in Json goal counted = json_of goal counted
+abbrev pub written_in : AnswerFormat → CoverOptions → Counted → List ℕ
+written_in Text options counted = cover_text options counted
+written_in Json options counted = json_of options.goal counted
 
 abbrev pub written_of : CoverOptions → Counted → List ℕ
-written_of options counted = written_in options.format options.goal counted
+written_of options counted = written_in options.format options counted
 
 -- 1 where fewer of a hundred bins are covered than have to be, and else 0
 pub record IsCoverStatus (require percent status : ℕ) : Type 0 where
@@ -118,23 +140,32 @@ IsFileFault holds lines path source_fault.TooLong = Unit {0}
 IsFileFault holds lines path source_fault.Memory = Unit {0}
 IsFileFault holds lines path fault = (input : List ℕ) × holds path input × IsTraceFault lines input fault
 
+-- how many bins have counted so many operations
+abbrev pub covered_in : ℕ → List ℕ → ℕ
+covered_in goal counts = covered_of goal (count_in counts) all_bins
+
+-- the new counts have counted these operations and refusals more, and how many more bins are covered
+pub record AddsTold (goal : ℕ) (ops : List Operation) (refusals : List Refusal) (old new : Counted) : Type 0 where
+  pub covered : IsAdded ops old.covered new.covered
+  pub refused : AreRefused refusals old.refusals new.refusals
+  pub added : new.added.items ≡ old.added.items ++ (covered_in goal new.covered - covered_in goal old.covered) ∷ []
+
 -- the new counts have counted what an input tells more
-abbrev pub Adds : Option LineFormat → List ℕ → Counted → Counted → Type 0
-Adds lines input old new =
-    (ops : List Operation) × (refusals : List Refusal) × AreOf lines input ops refusals × IsAdded ops old.covered new.covered × AreRefused refusals old.refusals new.refusals
+abbrev pub Adds : ℕ → Option LineFormat → List ℕ → Counted → Counted → Type 0
+Adds goal lines input old new = (ops : List Operation) × (refusals : List Refusal) × AreOf lines input ops refusals × AddsTold goal ops refusals old new
 
 -- the same of what the file of a path holds
-abbrev pub AddsFile : (List ℕ → List ℕ → Type 0) → Option LineFormat → List ℕ → Counted → Counted → Type 0
-AddsFile holds lines path old new = (input : List ℕ) × holds path input × (length input ≤ most_bytes) × Adds lines input old new
+abbrev pub AddsFile : (List ℕ → List ℕ → Type 0) → ℕ → Option LineFormat → List ℕ → Counted → Counted → Type 0
+AddsFile holds goal lines path old new = (input : List ℕ) × holds path input × (length input ≤ most_bytes) × Adds goal lines input old new
 
 -- these are the counts of what these files hold
-abbrev pub AreOfFiles : (List ℕ → List ℕ → Type 0) → Option LineFormat → List (List ℕ) → Counted → Type 0
-AreOfFiles holds lines paths counted = (inputs : List (List ℕ)) × AreHeld holds paths inputs × AreCounted lines inputs counted
+abbrev pub AreOfFiles : (List ℕ → List ℕ → Type 0) → ℕ → Option LineFormat → List (List ℕ) → Counted → Type 0
+AreOfFiles holds goal lines paths counted = (inputs : List (List ℕ)) × AreHeld holds paths inputs × AreCounted goal lines inputs counted
 
 -- the inputs have these counts
 abbrev pub HasCounts : (List ℕ → List ℕ → Type 0) → CoverOptions → List ℕ → Counted → Type 0
 HasCounts holds options input counted =
-    (inputs : List (List ℕ)) × AreInputs holds (paths_of options) input inputs × AreCounted options.lines inputs counted
+    (inputs : List (List ℕ)) × AreInputs holds (paths_of options) input inputs × AreCounted options.goal options.lines inputs counted
 
 -- why the standard input was not counted
 abbrev pub IsInputFault : Option LineFormat → List ℕ → CheckFault → Type 0

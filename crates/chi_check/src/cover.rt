@@ -1,4 +1,5 @@
-//! What is written of what the operations of traces or of events covered, and of how many requests were refused.
+//! What is written of what the operations of traces or of events covered, of what each input added, and of how many requests were
+//! refused.
 
 ghost use Rattle.std.specs.Prelude.{◌≡◌, ◌<◌, ◌≤◌, IfOk, IfSome};
 ghost use Rattle.chi_cover.specs.Counts.{count_in, percent_of};
@@ -13,7 +14,7 @@ use crate::options::CoverOptions;
 use crate::pages::Pages;
 use crate::sources::Sources;
 use chi_answer::AnswerFormat;
-use chi_cover::{Covered, add_json, add_page, add_refusals, add_table};
+use chi_cover::{Covered, add_added_lines, add_json, add_page, add_refusals, add_table};
 use chi_script::write_bytes;
 use std::alloc::{AllocError, Global};
 use std::io::{Read, Write};
@@ -28,13 +29,18 @@ fn cover_status(covered: &Covered, options: &CoverOptions<'_>) -> u8
     if percent < options.require { 1 } else { 0 }
 }
 
-// The table of what is covered, and how many requests were refused.
-fn counted_text(alloc: Global, counted: &Counted, goal: u64) -> Result<Vec<u8>, AllocError>
-    ensures { IfOk result (λ text. text.items ≡ cover_text goal counted.now) }
+// The table of what is covered, how many requests were refused, and what each of the files added.
+fn counted_text(
+    alloc: Global,
+    counted: &Counted,
+    options: &CoverOptions<'_>,
+) -> Result<Vec<u8>, AllocError>
+    ensures { IfOk result (λ text. text.items ≡ cover_text options.now counted.now) }
 {
     let mut text = Vec::new(alloc);
-    add_table(alloc, &mut text, &counted.covered, goal)?;
+    add_table(alloc, &mut text, &counted.covered, options.goal)?;
     add_refusals(&mut text, &counted.refusals)?;
+    add_added_lines(&mut text, &options.files, &counted.added)?;
     Ok(text)
 }
 
@@ -43,7 +49,14 @@ fn counted_json(alloc: Global, counted: &Counted, goal: u64) -> Result<Vec<u8>, 
     ensures { IfOk result (λ text. text.items ≡ json_of goal counted.now) }
 {
     let mut text = Vec::new(alloc);
-    add_json(alloc, &mut text, &counted.covered, &counted.refusals, goal)?;
+    add_json(
+        alloc,
+        &mut text,
+        &counted.covered,
+        &counted.refusals,
+        goal,
+        &counted.added,
+    )?;
     Ok(text)
 }
 
@@ -56,7 +69,7 @@ fn counted_as(
     ensures { IfOk result (λ text. text.items ≡ written_of options.now counted.now) }
 {
     match options.format {
-        AnswerFormat::Text => counted_text(alloc, counted, options.goal),
+        AnswerFormat::Text => counted_text(alloc, counted, options),
         AnswerFormat::Json => counted_json(alloc, counted, options.goal),
     }
 }
@@ -77,6 +90,7 @@ fn page_asked(
             &counted.covered,
             &counted.refusals,
             options.goal,
+            &counted.added,
         )?;
     }
     Ok(page)
@@ -104,8 +118,9 @@ fn report_of(
 }
 
 /// Reads traces or events, counts what their operations covered and how many requests were refused, and writes the table and then
-/// the refusals, or both as JSON: of the files that the options name, added up, or of the standard input where they name none. The
-/// answer is a status: 1 where fewer of a hundred bins are covered than the options want, and else 0.
+/// the refusals, or both as JSON: of the files that the options name, added up, or of the standard input where they name none. How
+/// many bins each input added stands after the refusals where there are two files or more, and in the JSON always. The answer is a
+/// status: 1 where fewer of a hundred bins are covered than the options want, and else 0.
 ///
 /// Nothing is written unless all inputs were read and counted. Where a page is asked for, it is made whole and put before the counts
 /// are written. After a fault of the writer a prefix of them has been written. Whether the operations can be explained is not

@@ -1,28 +1,33 @@
-//! From traces or lines to what their operations covered, and how many requests were refused.
+//! From traces or lines to what their operations covered, what each of them added, and how many requests were refused.
 
 ghost use Rattle.std.specs.Prelude.{◌≡◌, ◌<◌, ◌≤◌, [], ◌∷◌, None, Some, IfErr, IfOk, IfSome, OnOk};
 ghost use Rattle.chi_cover.specs.declared.bin.Bin.{Bin};
 ghost use Rattle.chi_cover.specs.Counts.{count_in};
 ghost use Rattle.chi_cover.specs.Refusals.{refused_in};
+ghost use Rattle.chi_trace.specs.Explains.{IsTrace};
 ghost use Rattle.chi_fields.specs.declared.refusal.Refusal.{Refusal};
-ghost use Rattle.chi_check.specs.Cover.{Adds, AddsFile, AreCounted, AreFilesFault, AreInputsFault, AreOfFiles, HasCounts, IsFileFault, IsInputFault, IsTraceFault, paths_of};
+ghost use Rattle.chi_check.specs.Cover.{Adds, AddsFile, AddsTold, AreCounted, AreFilesFault, AreInputsFault, AreOfFiles, HasCounts, IsFileFault, IsInputFault, IsTraceFault, paths_of};
 
 use crate::check::read_bytes;
 use crate::fault::{CheckFault, SourceFault};
 use crate::options::CoverOptions;
 use crate::sources::Sources;
 use chi_cover::{Covered, Refusals};
+use chi_fields::Refusal;
 use chi_json::InputFault;
 use chi_reading::read_trace;
+use chi_trace::Operation;
 use chi_watch_text::{LineFormat, read_operations};
 use std::alloc::{AllocError, Global};
 use std::io::Read;
 
-/// What was counted of inputs: what their operations covered, and how many requests were refused for each reason.
+/// What was counted of inputs: what their operations covered, how many requests were refused for each reason, and how many bins
+/// each input added to those that are covered.
 #[derive(Drop)]
 pub(crate) struct Counted {
     pub covered: Covered,
     pub refusals: Refusals,
+    pub added: Vec<u64>,
 }
 
 impl Counted {
@@ -30,28 +35,52 @@ impl Counted {
     fn none(alloc: Global) -> Result<Counted, AllocError>
         ensures covered { IfOk result (λ counted. (bin : Bin) → count_in counted.covered bin ≡ 0) }
         ensures refused { IfOk result (λ counted. (reason : Refusal) → refused_in counted.refusals reason ≡ 0) }
+        ensures added { IfOk result (λ counted. counted.added.items ≡ []) }
     {
         Ok(Counted {
             covered: Covered::new(alloc)?,
             refusals: Refusals::none(),
+            added: Vec::new(alloc),
         })
     }
 }
 
+// Adds operations and refusals, and how many bins are covered now that were not.
+fn add_told(
+    alloc: Global,
+    counted: &mut Counted,
+    ops: &[Operation],
+    refusals: &[Refusal],
+    goal: u64,
+) -> Result<(), AllocError>
+    requires { IsTrace ops.now }
+    ensures { OnOk result (AddsTold goal ops.now refusals.now counted.old counted.new) }
+{
+    let before = counted.covered.covered(goal) as u64;
+    counted.covered.add(alloc, ops)?;
+    counted.refusals.add(refusals);
+    let after = counted.covered.covered(goal) as u64;
+    counted.added.push(after.saturating_sub(before))?;
+    Ok(())
+}
+
 // Adds the operations and the refusals of a trace.
-fn add_trace(alloc: Global, counted: &mut Counted, input: &[u8]) -> Result<(), SourceFault>
-    ensures added { OnOk result (Adds None input.now counted.old counted.new) }
+fn add_trace(
+    alloc: Global,
+    counted: &mut Counted,
+    input: &[u8],
+    goal: u64,
+) -> Result<(), SourceFault>
+    ensures added { OnOk result (Adds goal None input.now counted.old counted.new) }
     ensures fault { IfErr result (IsTraceFault None input.now) }
 {
     let recorded = match read_trace(alloc, input) {
         Ok(recorded) => recorded,
         Err(fault) => return Err(SourceFault::Trace(fault)),
     };
-    match counted.covered.add(alloc, recorded.trace().operations()) {
-        Ok(()) => {
-            counted.refusals.add(recorded.refusals());
-            Ok(())
-        }
+    let ops = recorded.trace().operations();
+    match add_told(alloc, counted, ops, recorded.refusals(), goal) {
+        Ok(()) => Ok(()),
         Err(_) => Err(SourceFault::Memory),
     }
 }
@@ -62,8 +91,9 @@ fn add_lines(
     counted: &mut Counted,
     input: &[u8],
     format: LineFormat,
+    goal: u64,
 ) -> Result<(), SourceFault>
-    ensures added { OnOk result (Adds (Some format) input.now counted.old counted.new) }
+    ensures added { OnOk result (Adds goal (Some format) input.now counted.old counted.new) }
     ensures fault { IfErr result (IsTraceFault (Some format) input.now) }
 {
     let mut lines = input;
@@ -71,11 +101,8 @@ fn add_lines(
         Ok(told) => told,
         Err(fault) => return Err(SourceFault::Events(fault)),
     };
-    match counted.covered.add(alloc, &told.operations) {
-        Ok(()) => {
-            counted.refusals.add(&told.refusals);
-            Ok(())
-        }
+    match add_told(alloc, counted, &told.operations, &told.refusals, goal) {
+        Ok(()) => Ok(()),
         Err(_) => Err(SourceFault::Memory),
     }
 }
@@ -85,14 +112,14 @@ fn add_input(
     alloc: Global,
     counted: &mut Counted,
     input: &[u8],
-    lines: Option<LineFormat>,
+    options: &CoverOptions<'_>,
 ) -> Result<(), SourceFault>
-    ensures added { OnOk result (Adds lines input.now counted.old counted.new) }
-    ensures fault { IfErr result (IsTraceFault lines input.now) }
+    ensures added { OnOk result (Adds options.now.goal options.now.lines input.now counted.old counted.new) }
+    ensures fault { IfErr result (IsTraceFault options.now.lines input.now) }
 {
-    match lines {
-        Some(format) => add_lines(alloc, counted, input, format),
-        None => add_trace(alloc, counted, input),
+    match options.lines {
+        Some(format) => add_lines(alloc, counted, input, format, options.goal),
+        None => add_trace(alloc, counted, input, options.goal),
     }
 }
 
@@ -101,11 +128,11 @@ fn add_file<S: Sources>(
     alloc: Global,
     counted: &mut Counted,
     path: &str,
-    lines: Option<LineFormat>,
+    options: &CoverOptions<'_>,
     sources: &S,
 ) -> Result<(), SourceFault>
-    ensures added { OnOk result (AddsFile (S.holds sources.now) lines path.now counted.old counted.new) }
-    ensures fault { IfErr result (IsFileFault (S.holds sources.now) lines path.now) }
+    ensures added { OnOk result (AddsFile (S.holds sources.now) options.now.goal options.now.lines path.now counted.old counted.new) }
+    ensures fault { IfErr result (IsFileFault (S.holds sources.now) options.now.lines path.now) }
 {
     let input = match sources.read_file(alloc, path) {
         Ok(input) => input,
@@ -113,7 +140,7 @@ fn add_file<S: Sources>(
         Err(InputFault::TooLong) => return Err(SourceFault::TooLong),
         Err(InputFault::Memory) => return Err(SourceFault::Memory),
     };
-    add_input(alloc, counted, &input, lines)
+    add_input(alloc, counted, &input, options)
 }
 
 // What these files tell, counted.
@@ -122,14 +149,14 @@ fn files_counted<S: Sources>(
     options: &CoverOptions<'_>,
     sources: &S,
 ) -> Result<Counted, CheckFault>
-    ensures counts { IfOk result (λ counted. AreOfFiles (S.holds sources.now) options.now.lines (paths_of options.now) counted) }
+    ensures counts { IfOk result (λ counted. AreOfFiles (S.holds sources.now) options.now.goal options.now.lines (paths_of options.now) counted) }
     ensures fault { IfErr result (AreFilesFault (S.holds sources.now) options.now.lines (paths_of options.now)) }
 {
     let Ok(mut counted) = Counted::none(alloc) else {
         return Err(CheckFault::Input(SourceFault::Memory));
     };
     for (place, path) in options.files.iter().enumerate() {
-        match add_file(alloc, &mut counted, path, options.lines, sources) {
+        match add_file(alloc, &mut counted, path, options, sources) {
             Ok(()) => {}
             Err(fault) => return Err(CheckFault::File { place, fault }),
         }
@@ -141,16 +168,16 @@ fn files_counted<S: Sources>(
 fn input_counted<R: Read>(
     alloc: Global,
     from: &mut R,
-    lines: Option<LineFormat>,
+    options: &CoverOptions<'_>,
 ) -> Result<Counted, CheckFault>
-    ensures counts { IfOk result (λ counted. IfSome (R.remaining from.old) (λ input. AreCounted lines (input ∷ []) counted)) }
-    ensures fault { IfErr result (λ fault. IfSome (R.remaining from.old) (λ input. IsInputFault lines input fault)) }
+    ensures counts { IfOk result (λ counted. IfSome (R.remaining from.old) (λ input. AreCounted options.now.goal options.now.lines (input ∷ []) counted)) }
+    ensures fault { IfErr result (λ fault. IfSome (R.remaining from.old) (λ input. IsInputFault options.now.lines input fault)) }
 {
     let input = read_bytes(alloc, from)?;
     let Ok(mut counted) = Counted::none(alloc) else {
         return Err(CheckFault::Input(SourceFault::Memory));
     };
-    match add_input(alloc, &mut counted, &input, lines) {
+    match add_input(alloc, &mut counted, &input, options) {
         Ok(()) => Ok(counted),
         Err(fault) => Err(CheckFault::Input(fault)),
     }
@@ -167,7 +194,7 @@ pub(crate) fn inputs_counted<R: Read, S: Sources>(
     ensures fault { IfErr result (λ fault. IfSome (R.remaining from.old) (λ input. AreInputsFault (S.holds sources.now) options.now.lines (paths_of options.now) input fault)) }
 {
     if options.files.is_empty() {
-        input_counted(alloc, from, options.lines)
+        input_counted(alloc, from, options)
     } else {
         files_counted(alloc, options, sources)
     }

@@ -1,3 +1,4 @@
+pub mod AddedLines
 pub mod Ends
 pub mod Last
 pub mod Latest

@@ -44,6 +44,14 @@ covered_json goal counts =
     codes "\"covered\":\"" ++ (decimal (covered_of goal counts all_bins) ++ (codes "\",\"bins\":\"1410\",\"percent\":\"" ++ (decimal (percent_of goal counts)
     ++ (codes "\",\"goal\":\"" ++ (decimal goal ++ codes "\"")))))
 
+-- a number, as a text
+unfoldable pub number_json : ℕ → List ℕ
+number_json number = codes "\"" ++ (decimal number ++ codes "\"")
+
+-- how many bins each input added
+unfoldable pub added_json : List ℕ → List ℕ
+added_json added = join_by number_json (codes ",") added
+
 -- a reason: its name, and how many requests were refused for it
 unfoldable pub reason_json : (Refusal → ℕ) → Refusal → List ℕ
 reason_json refused reason = counted_json (name_of reason) (refused reason)
@@ -52,8 +60,8 @@ reason_json refused reason = counted_json (name_of reason) (refused reason)
 unfoldable pub reasons_json : (Refusal → ℕ) → List Refusal → List ℕ
 reasons_json refused reasons = join_by (reason_json refused) (codes ",") reasons
 
--- what was covered, and how many requests were refused for each reason
-unfoldable pub cover_json : ℕ → (Bin → ℕ) → (Refusal → ℕ) → List ℕ
-cover_json goal counts refused =
-    codes "{" ++ (covered_json goal counts ++ (codes ",\"groups\":[" ++ (groups_json counts
-    ++ (codes "],\"refused\":[" ++ (reasons_json refused all_refusals ++ codes "]}\n")))))
+-- what was covered, how many bins each input added, and how many requests were refused for each reason
+unfoldable pub cover_json : ℕ → List ℕ → (Bin → ℕ) → (Refusal → ℕ) → List ℕ
+cover_json goal added counts refused =
+    codes "{" ++ (covered_json goal counts ++ (codes ",\"added\":[" ++ (added_json added ++ (codes "],\"groups\":[" ++ (groups_json counts
+    ++ (codes "],\"refused\":[" ++ (reasons_json refused all_refusals ++ codes "]}\n")))))))

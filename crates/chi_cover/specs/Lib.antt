@@ -1,4 +1,5 @@
 pub mod Added
+pub mod AddedLines
 pub mod Bins
 pub mod Counts
 pub mod Json

@@ -5,6 +5,7 @@ ghost use Rattle.chi_cover.specs.Counts.{count_in};
 ghost use Rattle.chi_cover.specs.Json.{bin_json, bins_json, cover_json, covered_json, further, group_json, groups_json, reason_json, reasons_json};
 ghost use Rattle.chi_cover.specs.Refusals.{refused_in};
 
+use crate::added_json::add_added;
 use crate::bin::Bin;
 use crate::covered::Covered;
 use crate::group::{comparison_bins, enables_bins, operation_bins, result_bins};
@@ -180,12 +181,12 @@ fn add_reasons(to: &mut Vec<u8>, refusals: &Refusals, reasons: &[Refusal]) -> Re
     add_further_reasons(to, refusals, rest)
 }
 
-/// Adds a coverage to a text as a JSON object on a line of its own: how many bins are covered, each group with the name and the
-/// count of its bins, and how many requests were refused for each reason. Numbers are strings. `goal` is how many operations a bin
-/// has to count to be covered; with 0 each is.
+/// Adds a coverage to a text as a JSON object on a line of its own: how many bins are covered, how many of them each input added,
+/// each group with the name and the count of its bins, and how many requests were refused for each reason. Numbers are strings.
+/// `goal` is how many operations a bin has to count to be covered; with 0 each is. `added` has a number for each input.
 ///
 /// ```
-/// add_json(alloc, &mut text, &covered, &refusals, 1)?; // {"covered":"6","bins":"1410","percent":"0","goal":"1","groups":[..
+/// add_json(alloc, &mut text, &covered, &refusals, 1, &[6])?; // {"covered":"6","bins":"1410","percent":"0","goal":"1",..
 /// ```
 #[tactic(auto, unfolding(crate::specs::Json::cover_json))]
 pub fn add_json(
@@ -194,12 +195,15 @@ pub fn add_json(
     covered: &Covered,
     refusals: &Refusals,
     goal: u64,
+    added: &[u64],
 ) -> Result<(), AllocError>
-    ensures { OnOk result (to.new.items ≡ to.old.items ++ cover_json goal (count_in covered.now) (refused_in refusals.now)) }
+    ensures { OnOk result (to.new.items ≡ to.old.items ++ cover_json goal added.now (count_in covered.now) (refused_in refusals.now)) }
 {
     add_parts(to, &[Text("{")])?;
     add_covered(to, covered, goal)?;
-    add_parts(to, &[Text(",\"groups\":[")])?;
+    add_parts(to, &[Text(",\"added\":[")])?;
+    add_added(to, added)?;
+    add_parts(to, &[Text("],\"groups\":[")])?;
     add_groups(alloc, to, covered)?;
     add_parts(to, &[Text("],\"refused\":[")])?;
     add_reasons(to, refusals, &Refusal::ALL)?;

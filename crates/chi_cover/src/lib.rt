@@ -1,6 +1,8 @@
 //! What the operations of traces covered: functional coverage, counted by definition, and its table and page. Source: profile.
 #![tactic(auto)]
 
+mod added_json;
+mod added_lines;
 mod adding;
 mod alike;
 mod bin;
@@ -27,6 +29,7 @@ mod table;
 mod traffic;
 mod traffic_group;
 
+pub use added_lines::add_added_lines;
 pub use bin::{Bin, Depth, Enabled, Transaction};
 pub use covered::Covered;
 pub use json::add_json;

@@ -46,10 +46,10 @@ fn add_back(to: &mut Vec<u8>) -> Result<(), AllocError>
 }
 
 /// Adds the page of a coverage to a text: one HTML file that needs no other, with the JSON of the coverage as data that a script
-/// draws. `goal` is how many operations a bin has to count to be covered; with 0 each is.
+/// draws. `goal` is how many operations a bin has to count to be covered; with 0 each is. `added` is how many bins each input added.
 ///
 /// ```
-/// add_page(alloc, &mut page, &covered, &refusals, 1)?;
+/// add_page(alloc, &mut page, &covered, &refusals, 1, &[6])?;
 /// ```
 #[tactic(auto, unfolding(crate::specs::Page::page_text))]
 pub fn add_page(
@@ -58,10 +58,11 @@ pub fn add_page(
     covered: &Covered,
     refusals: &Refusals,
     goal: u64,
+    added: &[u64],
 ) -> Result<(), AllocError>
-    ensures { OnOk result (to.new.items ≡ to.old.items ++ page_text (front_text STYLE.now) (cover_json goal (count_in covered.now) (refused_in refusals.now)) (back_text SCRIPT.now)) }
+    ensures { OnOk result (to.new.items ≡ to.old.items ++ page_text (front_text STYLE.now) (cover_json goal added.now (count_in covered.now) (refused_in refusals.now)) (back_text SCRIPT.now)) }
 {
     add_front(to)?;
-    add_json(alloc, to, covered, refusals, goal)?;
+    add_json(alloc, to, covered, refusals, goal, added)?;
     add_back(to)
 }

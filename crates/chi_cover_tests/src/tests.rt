@@ -1,5 +1,6 @@
 //! The tests, and what they share.
 
+mod added_tests;
 mod comparison;
 mod json_tests;
 mod many_tests;

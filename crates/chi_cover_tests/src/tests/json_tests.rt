@@ -12,7 +12,7 @@ use std::test::Fail;
 // requests were refused, two of them for one reason. All of it is on one line.
 const WANTED: [&str; 11] = [
     r#"{"covered":"9","bins":"1410","percent":"0","goal":"1",
-"groups":[{"name":"operations","bins":[["ReadNoSnp, little-endian, 1 byte, lane 0","0"],
+"added":["8","0","2"],"groups":[{"name":"operations","bins":[["ReadNoSnp, little-endian, 1 byte, lane 0","0"],
 ["ReadNoSnp, little-endian, 1 byte, lane 1","0"],
 "#,
     r#"
@@ -104,9 +104,15 @@ fn on_one_line(alloc: Global, lines: &str) -> Result<String, Fail> {
     Ok(whole)
 }
 
-fn json(alloc: Global, covered: &Covered, refusals: &Refusals, goal: u64) -> Result<String, Fail> {
+fn json(
+    alloc: Global,
+    covered: &Covered,
+    refusals: &Refusals,
+    goal: u64,
+    added: &[u64],
+) -> Result<String, Fail> {
     let mut text = Vec::new(alloc);
-    add_json(alloc, &mut text, covered, refusals, goal)?;
+    add_json(alloc, &mut text, covered, refusals, goal, added)?;
     Ok(String::from_utf8(text)?)
 }
 
@@ -120,7 +126,7 @@ fn the_json_of_a_small_trace(rt: HostRuntime) -> Result<(), Fail> {
         Refusal::BadByteEnable,
         Refusal::Misaligned,
     ]);
-    let json = json(alloc, &covered, &refusals, 1)?;
+    let json = json(alloc, &covered, &refusals, 1, &[8, 0, 2])?;
     for wanted in &WANTED {
         let wanted = on_one_line(alloc, wanted)?;
         assert_same(&rt, json.contains(wanted.as_str()), true);
@@ -133,10 +139,12 @@ fn the_json_of_a_small_trace(rt: HostRuntime) -> Result<(), Fail> {
 #[test]
 fn one_object_on_a_line(rt: HostRuntime) -> Result<(), Fail> {
     let alloc = rt.alloc();
-    let json = json(alloc, &Covered::new(alloc)?, &Refusals::none(), 1)?;
+    let json = json(alloc, &Covered::new(alloc)?, &Refusals::none(), 1, &[])?;
     assert_same(
         &rt,
-        json.starts_with(r#"{"covered":"0","bins":"1410","percent":"0","goal":"1","groups":[{"#),
+        json.starts_with(
+            r#"{"covered":"0","bins":"1410","percent":"0","goal":"1","added":[],"groups":[{"#,
+        ),
         true,
     );
     assert_same(&rt, json.ends_with("[\"BadByteEnable\",\"0\"]]}\n"), true);
@@ -150,9 +158,9 @@ fn one_object_on_a_line(rt: HostRuntime) -> Result<(), Fail> {
 fn the_json_at_a_goal_of_two_operations(rt: HostRuntime) -> Result<(), Fail> {
     let alloc = rt.alloc();
     let covered = covered_twice(alloc)?;
-    let json = json(alloc, &covered, &Refusals::none(), 2)?;
+    let json = json(alloc, &covered, &Refusals::none(), 2, &[u64::MAX])?;
     for wanted in [
-        r#"{"covered":"4","bins":"1410","percent":"0","goal":"2","groups":[{"name":"operations","#,
+        r#"{"covered":"4","bins":"1410","percent":"0","goal":"2","added":["18446744073709551615"],"groups":[{"name":"operations","#,
         r#"["WriteNoSnpPtl, big-endian, 4 bytes, lane 4","1"]"#,
         r#"["AtomicLoad.ADD, little-endian, 2 bytes, lane 4","2"]"#,
         r#"[["open 1","2"],["open 2","1"],["open 3 to 4","0"],"#,
