@@ -72,7 +72,7 @@ def limits():
         status, out, _ = run(CHECKER, ["explain", "--budget", "1000000000", *words.split()], whole)
         took, found = time.monotonic() - began, re.match(rb"undecided: granule 0000000000001000 after (\d+) states\n", out)
         tried = found and int(found[1])
-        told(f"limits: {words}: {status} {out} {took}", status == 6 and tried in [1 << it for it in range(16, 30)] and took < 60)
+        told(f"limits: {words}: {status} {out} {took}", status == 6 and tried in [1 << it for it in range(16, 30)] and took < 20)
         told(f"limits: {words}: the least {tried}", "0" not in words.split() or tried == 1 << 16)
     later = trace(sums(17))
     found = run(CHECKER, ["explain"], later)
@@ -83,13 +83,14 @@ def limits():
 
 
 def cut_short():
-    """What follows a verdict may take 16 times its states, 64 for each operation, and 100,000: here the verdict takes none, since no
-    operation leaves what one of them found, and up to most ends more orders are possible than that."""
+    """What follows a verdict may take 16 times its states, 64 for each operation, and 100,000, and of 200 that are pending at once the
+    fourth part of that: here the verdict takes none, since no operation leaves what one of them found, and up to most ends more orders
+    are possible than that."""
     began = time.monotonic()
     status, out, errors = run(CHECKER, ["explain"], trace(adds_at_once(200, 150)))
     took, lines = time.monotonic() - began, out.decode().splitlines()
     told(f"cut_short: {status} {lines} {took}", (status, errors, lines[0]) == (1, b"", "not explained: granule 0000000000001000") and took < 60)
-    told(f"cut_short: {lines}", lines[-1] == f"  what is not shown was not found within {64 * 200 + 100000} more states")
+    told(f"cut_short: {lines}", lines[-1] == f"  what is not shown was not found within {(64 * 200 + 100000) // 4} more states")
     few = run(CHECKER, ["explain"], trace(adds_at_once(12, 9)))[1].decode()
     told(f"cut_short: 12 of them: {few}", "what is not shown" not in few and "\nat 1009: 1 1 30 " in few)
 

@@ -13,7 +13,7 @@ use chi_reading::Recorded;
 use chi_search::{Progress, Words};
 use chi_verdict::{
     Blame, Doubt, First, Verdict, doubt_of, explain, first_unexplained, legal_to_the_end,
-    words_held,
+    most_open, words_held,
 };
 use std::alloc::{AllocError, Global};
 
@@ -57,7 +57,11 @@ fn verdict_of<P: Progress>(
     progress.before_verdict();
     let trace = recorded.trace();
     let verdict = explain(alloc, trace, recorded.final_words(), budget, progress)?;
-    progress.after_verdict(trace.operations().len());
+    let pending = match &verdict {
+        Verdict::Unexplained { granule } => most_open(alloc, trace, *granule)?,
+        _ => 0,
+    };
+    progress.after_verdict(trace.operations().len(), pending);
     Ok(verdict)
 }
 

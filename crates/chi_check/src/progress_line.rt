@@ -1,6 +1,6 @@
 //! The line that says how far a search is.
 
-ghost use Rattle.std.specs.Prelude.{◌≡◌, ℕ, ◌+◌, ◌-◌, ◌*◌, ◌^◌, ◌<◌, ◌≤◌, None, min};
+ghost use Rattle.std.specs.Prelude.{◌≡◌, ℕ, ◌+◌, ◌-◌, ◌*◌, ◌/◌, ◌^◌, ◌<◌, ◌≤◌, None, max, min};
 ghost use Rattle.std.specs.Io.KnownBytes.{Keeps};
 ghost use Rattle.chi_search.specs.Looks.{IsCutShort, LookedMore, Search, after_verdict, for_verdict};
 ghost use Rattle.chi_check.specs.Counted.{IsCounted, IsCutAt, IsKnown};
@@ -31,8 +31,14 @@ const EACH: u64 = 64;
 
 const LEAST: u64 = 100_000;
 
-// As how many a state counts from then on.
-const LATE: u64 = 4096;
+// Where many operations were pending at once a state takes longer: fewer may follow, by as many times as these go into their number.
+const FEW_PENDING: u64 = 48;
+
+// From then on a state counts as a quarter of what a search may still look at, and once that is no more than this as one of so
+// many parts of it.
+const FEW_LEFT: u64 = 4096;
+
+const PARTS: u64 = 64;
 
 /// A line on a terminal that says how many states a search has looked at, or, once events are told, how many operations have
 /// ended, of how many granules, how many requests are outstanding, and the time of the last event. It is first written where a
@@ -56,15 +62,30 @@ pub struct ProgressLine<'a, C, W> {
     cut_short: Option<u64>,
 }
 
-// How many states may be looked at after a verdict of so many operations, which took so many states.
-fn states_after(states: u64, operations: usize) -> u64
-    ensures { result ≡ min (min (states * 16) 2000000 + operations * 64 + 100000) (2 ^ 64 - 1) }
+// How many states may be looked at after a verdict of so many operations, which took so many states, where so many were pending at
+// once.
+fn states_after(states: u64, operations: usize, pending: usize) -> u64
+    ensures { result ≡ min (min (states * 16) 2000000 + operations * 64 + 100000) (2 ^ 64 - 1) / max 1 (pending / 48) }
 {
     let of_states = states.saturating_mul(TIMES).min(MOST);
     let of_operations = (operations as u64).saturating_mul(EACH);
-    of_states
+    let all = of_states
         .saturating_add(of_operations)
-        .saturating_add(LEAST)
+        .saturating_add(LEAST);
+    all / (pending as u64 / FEW_PENDING).max(1)
+}
+
+// As how many a state counts late, of as many as are left.
+fn late(left: u64) -> u64
+    requires { 0 < left }
+    ensures some { 0 < result }
+    ensures within { result ≤ left }
+{
+    if left > FEW_LEFT {
+        left / 4
+    } else {
+        (left / PARTS).max(1)
+    }
 }
 
 impl<'a, C: Clock, W: Write + IsTerminal> ProgressLine<'a, C, W> {
@@ -126,7 +147,7 @@ impl<'a, C: Clock, W: Write> ProgressLine<'a, C, W> {
         match self.may_follow {
             Some(most) if self.states.saturating_sub(self.begun) >= most => {
                 self.cut_short = Some(most);
-                left.min(LATE)
+                late(left)
             }
             _ => 1,
         }
@@ -205,14 +226,14 @@ impl<'a, C: Clock, W: Write> Progress for ProgressLine<'a, C, W> {
         self.may_follow = None;
     }
 
-    fn after_verdict(&mut self, operations: usize)
+    fn after_verdict(&mut self, operations: usize, pending: usize)
         ensures ends { (n : ℕ) → IsKnown for_verdict self.old.may_follow self.old.begun self.old.states self.old.cut_short n → IsKnown (after_verdict n) self.new.may_follow self.new.begun self.new.states self.new.cut_short n }
         ensures quiet { Keeps (W.contents self.old.to) (W.contents self.new.to) }
-        ensures limited { self.new.may_follow ≡ Some (min (min ((self.old.states - self.old.begun) * 16) 2000000 + operations * 64 + 100000) (2 ^ 64 - 1)) }
+        ensures limited { self.new.may_follow ≡ Some (min (min ((self.old.states - self.old.begun) * 16) 2000000 + operations * 64 + 100000) (2 ^ 64 - 1) / max 1 (pending / 48)) }
     {
         let taken = self.states.saturating_sub(self.begun);
         self.begun = self.states;
-        self.may_follow = Some(states_after(taken, operations));
+        self.may_follow = Some(states_after(taken, operations, pending));
         self.cut_short = None;
     }
 

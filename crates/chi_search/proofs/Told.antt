@@ -1,8 +1,8 @@
 -- what a reply with data tells of the words that the operation fits, and of those that it leaves
-use Rattle.std.proofs.Common.{◌≡◌, ℕ, ◌+◌, ◌-◌, ◌/◌, ◌%◌, ◌^◌, ◌<◌, ◌≤◌, List, ◌++◌, Option, Some, IfSome, get_or, length, take, replicate, refl, sym, ap, subst, ◌∙◌, arith, take_at, inl, inr}
+use Rattle.std.proofs.Common.{◌≡◌, ℕ, ◌+◌, ◌-◌, ◌/◌, ◌%◌, ◌^◌, ◌<◌, ◌≤◌, List, ◌++◌, Option, Some, IfSome, get_or, length, slice_index, take, replicate, refl, sym, ap, subst, ◌∙◌, arith, take_at, inl, inr}
 use Rattle.std.specs.Int.{bit_at}
 use Rattle.std.proofs.lemmas.Bool.{cases_lt}
-use Rattle.std.proofs.lemmas.List.{append_cancel_left}
+use Rattle.std.proofs.lemmas.List.{append_cancel_left, get_or-append-add, get_or_append_left, length-replicate}
 use Rattle.chi_fields.specs.declared.kind.Kind.{Kind}
 use Rattle.chi_fields.specs.declared.kind.Kind.TheVariants.{Read, Write, Store, Load, Swap, Compare}
 use Rattle.chi_fields.specs.Access.{IsLawful, Access, lane_of}
@@ -54,6 +54,9 @@ here op w = with_word (granule_start op.access.addr) w
 abbrev pub byte_of : Operation → ℕ → ℕ
 byte_of op k = granule_start op.access.addr + k / 8
 
+some_of : {R : Type 0} (P : R → Type 0) (seen : Option R) → IfSome seen P → (r : R) → seen ≡ Some r → P r
+some_of P seen if_some r is = subst (λ o. IfSome o P) is if_some
+
 -- of two words that it fits
 olds : (op : Operation) (bs : List ℕ) → op.reply ≡ Some (CompData bs) → (w v : ℕ) → Fits op w → Fits op v
     → old op.access (here op w) ≡ old op.access (here op v)
@@ -62,9 +65,6 @@ olds op bs held w v fits v_fits =
     olds_as op.access.kind op.access (here op w) (here op v) bs
     (some_of (λ reply. reply ≡ answer_as op.access.kind op.access (here op w)) op.reply fits (CompData bs) held)
     (some_of (λ reply. reply ≡ answer_as op.access.kind op.access (here op v)) op.reply v_fits (CompData bs) held)
-  where
-    some_of : {R : Type 0} (P : R → Type 0) (seen : Option R) → IfSome seen P → (r : R) → seen ≡ Some r → P r
-    some_of P seen if_some r is = subst (λ o. IfSome o P) is if_some
 
 -- a byte of the operand
 old_byte : (o : Access) (m k : Memory) (x : ℕ) → old o m ≡ old o k → o.addr ≤ x → x < o.addr + o.len → m x ≡ k x
@@ -129,3 +129,38 @@ kept_outside op lawful w k below within outside =
         | inr past ↦ inr past
       ]
     ]
+
+-- a byte of data in the lanes
+lane_at : (l i : ℕ) (bs : List ℕ) → i < length bs → slice_index (in_lanes l bs) (l + i) ≡ get_or bs i 0
+lane_at l i bs within =
+    let shifted : get_or (in_lanes l bs) (length (replicate l 0) + i) 0 ≡ get_or (bs ++ replicate (16 - l - length bs) 0) i 0 =
+    get_or-append-add (replicate l 0) (bs ++ replicate (16 - l - length bs) 0) i 0 in
+    ap (λ n. get_or (in_lanes l bs) (n + i) 0) (sym (length-replicate l 0)) ∙ shifted ∙ get_or_append_left bs (replicate (16 - l - length bs) 0) 0 i within
+
+-- the data of an answer of any kind are the old bytes
+data_of : (kind : Kind) (o : Access) (m : Memory) (bs : List ℕ) → CompData bs ≡ answer_as kind o m → bs ≡ in_lanes (lane_of o.addr) (old o m)
+data_of Read o m bs is = cc
+data_of Write o m bs is = cc
+data_of (Store op) o m bs is = cc
+data_of (Load op) o m bs is = cc
+data_of Swap o m bs is = cc
+data_of Compare o m bs is = cc
+
+-- a word that it fits has the bits of the reply in the operand
+pub fits_data : (op : Operation) (bs : List ℕ) → IsLawful op.access → op.reply ≡ Some (CompData bs) → (w : ℕ) → w < 2 ^ 64 → Fits op w
+    → (k : ℕ) → IsInOperand op.access k → bit_at (slice_index bs (lane_of (byte_of op k))) (k % 8) ≡ bit_at w k
+unfolding Fits
+fits_data op bs lawful held w below fits k inside =
+    let o = op.access in
+    let place = placed o.addr o.len lawful.part lawful.aligned in
+    let i : ℕ = byte_of op k - o.addr in
+    let within : i < o.len = omega (arith, inside.0, inside.1) in
+    let lane : lane_of (byte_of op k) ≡ lane_of o.addr + i = omega (arith, place.packet, inside.0, inside.1) in
+    let lanes : bs ≡ in_lanes (lane_of o.addr) (old o (here op w)) =
+    data_of o.kind o (here op w) bs (some_of (λ reply. reply ≡ answer_as o.kind o (here op w)) op.reply fits (CompData bs) held) in
+    let at : o.addr + i ≡ byte_of op k = omega (arith, inside.0) in
+    let byte : slice_index bs (lane_of (byte_of op k)) ≡ here op w (byte_of op k) =
+    ap (slice_index bs) lane ∙ ap (λ l. slice_index l (lane_of o.addr + i)) lanes
+    ∙ lane_at (lane_of o.addr) i (old o (here op w)) (omega (arith, within, length-bytes_from (here op w) o.addr o.len))
+    ∙ get_or-bytes_from (here op w) o.addr o.len i within ∙ ap (here op w) at in
+    ap (λ b. bit_at b (k % 8)) byte ∙ sym (bit_here op w k below (in_word o k lawful inside))

@@ -90,22 +90,32 @@ pub(crate) fn has_ended(
     Ok(false)
 }
 
-// Whether the state is seen at once to be dead.
-fn is_hopeless(problem: &Problem, state: &State) -> bool
+// Whether the state is seen at once to be dead, where a run is followed back over `depth` operations beyond the last one.
+fn is_hopeless(problem: &Problem, state: &State, depth: usize) -> bool
     requires { IsProblem problem.now }
     ensures { IsTrue result → IsDead problem.now.ops.now problem.now.final_word (position_of state.now) }
 {
     // That the word is one of 64 bits is known here once it is read.
     let _word = state.word;
-    lacks_maker(problem, state, u64::MAX, u64::MAX, u64::MAX, LOOKED_AT, 0)
+    lacks_maker(
+        problem,
+        state,
+        u64::MAX,
+        u64::MAX,
+        u64::MAX,
+        LOOKED_AT,
+        depth,
+    )
 }
 
 /// Whether each state of the set is dead, as far as that is seen at once: an operation finds what no other can leave, or the end
-/// has it. Those that are seen to be are added to the dead ones.
+/// has it. A run is followed back over `depth` operations beyond the last one. Those that are seen to be dead are added to the dead
+/// ones.
 pub(crate) fn are_hopeless(
     alloc: Global,
     problem: &Problem,
     from: &States,
+    depth: usize,
     dead: &mut States,
 ) -> Result<bool, AllocError>
     requires problem { IsProblem problem.now }
@@ -125,7 +135,7 @@ pub(crate) fn are_hopeless(
         if has(dead, &state) {
             continue;
         }
-        if is_hopeless(&problem, &state) {
+        if is_hopeless(&problem, &state, depth) {
             add(alloc, dead, &state)?;
         } else {
             are = false;

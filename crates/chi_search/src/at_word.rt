@@ -4,6 +4,7 @@ ghost use Rattle.std.specs.Prelude.{◌≡◌, ◌+◌, ◌^◌, ◌<◌, ◌≤
 ghost use Rattle.chi_trace.specs.Granules.{Fits, next};
 ghost use Rattle.chi_search.specs.Moves.{IsIdle};
 
+use crate::effect::{operand_mask, word_in};
 use chi_lanes::Reply;
 use chi_trace::{Operation, apply_operation};
 
@@ -15,6 +16,20 @@ pub(crate) fn is_same(reply: Reply, other: Reply) -> bool
         (Reply::Comp, Reply::Comp) => true,
         (Reply::CompData(lanes), Reply::CompData(others)) => lanes == others,
         _ => false,
+    }
+}
+
+// Whether the reply has data that are seen not to be those of the word.
+fn has_other_data(op: &Operation, word: u64) -> bool
+    requires { op.now.access.addr + op.now.access.len ≤ 2 ^ 52 }
+    ensures { IsTrue result → Fits op.now word → ⊥ }
+{
+    match op.reply {
+        Some(reply) => match reply {
+            Reply::CompData(lanes) => (word_in(op, &lanes) ^ word) & operand_mask(op) != 0,
+            Reply::Comp => false,
+        },
+        None => false,
     }
 }
 
@@ -31,6 +46,9 @@ pub fn step(op: &Operation, word: u64) -> Option<u64>
     ensures after { IfSome result (λ after. after ≡ next op.now word) }
     ensures unfit { result ≡ None → Fits op.now word → ⊥ }
 {
+    if has_other_data(op, word) {
+        return None;
+    }
     let (after, reply) = apply_operation(op, word);
     match op.reply {
         Some(seen) => {

@@ -80,4 +80,24 @@ impl EarliestStarts {
         }
         next
     }
+
+    /// A place, not before this one, from which on no operation starts by the time.
+    pub(crate) fn past(&self, ops: &[Operation], place: usize, time: u64) -> usize
+        requires earliest { AreEarliest ops.now self.now }
+        requires place { place ≤ length ops.now }
+        ensures within { result ≤ length ops.now }
+        ensures late { (i : ℕ) → result ≤ i → i < length ops.now → time < (at ops.now i).start }
+    {
+        let mut low = place;
+        let mut high = ops.len();
+        while low < high {
+            let middle = low + (high - low) / 2;
+            if self.times[middle] > time {
+                high = middle;
+            } else {
+                low = middle + 1;
+            }
+        }
+        high
+    }
 }

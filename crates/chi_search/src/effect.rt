@@ -37,8 +37,8 @@ pub(crate) fn operand_mask(op: &Operation) -> u64
     lane_mask((op.access.addr() % 8) as usize, op.access.len())
 }
 
-// The word of the granule's lanes of a packet: each of its bits is that of the byte in the lane of its address.
-fn word_in(op: &Operation, lanes: &[u8; 16]) -> u64
+/// The word of the granule's lanes of a packet: each of its bits is that of the byte in the lane of its address.
+pub(crate) fn word_in(op: &Operation, lanes: &[u8; 16]) -> u64
     ensures { (k : ℕ) → k < 64 → bit_at result k ≡ bit_at (slice_index lanes.now (lane_of (granule_start op.now.access.addr + k / 8))) (k % 8) }
 {
     let mut bytes = [0; 8];

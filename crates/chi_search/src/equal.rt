@@ -53,7 +53,7 @@ fn is_same_seen(reply: Option<Reply>, other: Option<Reply>) -> bool
 pub(crate) fn are_equal(op: &Operation, other: &Operation) -> bool
     ensures { IsTrue result → AreEqual op.now other.now }
 {
-    is_same_access(&op.access, &other.access) && is_same_seen(op.reply, other.reply)
+    is_same_seen(op.reply, other.reply) && is_same_access(&op.access, &other.access)
 }
 
 /// Whether an equal operation that can come next as well stands before the place, where it is asked for.

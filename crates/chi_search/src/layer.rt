@@ -140,6 +140,17 @@ fn fewest_settled(layer: &States, state: &mut State) -> Result<(usize, usize), A
     Ok((least, fewest))
 }
 
+// Counts as many states as may still be looked at.
+fn spend<P: Progress>(budget: &mut u64, progress: &mut P)
+    ensures spent { budget.new ≡ 0 }
+    ensures looked { LookedMore P.looked progress.old progress.new budget.old }
+{
+    while *budget > 0 {
+        let count = progress.look(*budget);
+        *budget -= count;
+    }
+}
+
 /// The states that follow by one move those of the set at which the fewest operations are settled, and the others of the set.
 /// The states that wait are put into a set of their own. Nothing, where the budget was spent or more than `most` wait.
 fn next_layer<P: Progress>(
@@ -194,6 +205,11 @@ fn next_layer<P: Progress>(
             waiting,
         )?;
         if count(waiting) > most {
+            return Ok(None);
+        }
+        // More were found than may still be looked at.
+        if count(&states) as u64 > *budget {
+            spend(budget, progress);
             return Ok(None);
         }
     }

@@ -26,6 +26,7 @@ fn is_out_of_reach(
     bits: u64,
     mask: u64,
     depth: usize,
+    asked: &mut usize,
 ) -> bool
     requires problem { IsProblem problem.now }
     requires each { length problem.now.ops.now ≤ length problem.now.effects.now }
@@ -44,12 +45,14 @@ fn is_out_of_reach(
         third: None,
         fourth: None,
     };
-    if !has_maker(problem, state, later, word, bits, mask, depth) {
+    if !has_maker(problem, state, later, word, bits, mask, depth, asked) {
         return true;
     }
     for byte in 0..8_u32 {
         let part = bits & (0xff << (8 * byte));
-        if differing & part != 0 && !has_maker(problem, state, later, word, part, mask, depth) {
+        if differing & part != 0
+            && !has_maker(problem, state, later, word, part, mask, depth, asked)
+        {
             return true;
         }
     }
@@ -67,7 +70,7 @@ fn must_find(ops: &[Operation], state: &State, place: usize) -> bool
 
 /// Whether in the bits of the mask an operation that is left must find, or the end must have, what nothing that is left can
 /// leave. So many operations from the first on are looked at, and of these the ones that start by `until`. Of those that start by
-/// `time` a run is followed back over `depth` operations beyond the last one.
+/// `time` a run is followed back over `depth` operations beyond the last one. So many times as many may be asked what they leave.
 pub(crate) fn lacks_maker(
     problem: &Problem,
     state: &State,
@@ -86,8 +89,9 @@ pub(crate) fn lacks_maker(
     if effects.len() < ops.len() {
         return false;
     }
+    let mut asked = count.saturating_mul(count);
     if let Some(seen) = problem.final_word
-        && is_out_of_reach(problem, state, None, seen, mask, mask, depth)
+        && is_out_of_reach(problem, state, None, seen, mask, mask, depth, &mut asked)
     {
         return true;
     }
@@ -103,6 +107,7 @@ pub(crate) fn lacks_maker(
                 effects[place].found_mask & mask,
                 mask,
                 followed,
+                &mut asked,
             )
         {
             return true;

@@ -90,22 +90,14 @@ fn bound_of(ops: &[Operation], earliest: &EarliestStarts, other: Option<usize>) 
     ensures late { (i : ℕ) → result ≤ i → i < length ops.now → MayPrecede ops.now i other → ⊥ }
 {
     match other {
-        Some(after) => {
-            let end = ops[after].end;
-            let mut bound = after;
-            let mut place = earliest.next(ops, after, end);
-            while place < ops.len() {
-                bound = place + 1;
-                place = earliest.next(ops, bound, end);
-            }
-            bound
-        }
+        Some(after) => earliest.past(ops, after, ops[after].end),
         None => ops.len(),
     }
 }
 
 /// Whether a run that stands before those that come later may lead to these bits of the word, as far as can be seen from so
-/// many of its last operations. The bits are bits of the mask, which is that of a run of bytes.
+/// many of its last operations, and from as many operations as may be asked. The bits are bits of the mask, which is that of a run
+/// of bytes.
 pub(crate) fn has_maker(
     problem: &Problem,
     state: &State,
@@ -114,6 +106,7 @@ pub(crate) fn has_maker(
     bits: u64,
     mask: u64,
     depth: usize,
+    asked: &mut usize,
 ) -> bool
     requires problem { IsProblem problem.now }
     requires each { length problem.now.ops.now ≤ length problem.now.effects.now }
@@ -130,6 +123,10 @@ pub(crate) fn has_maker(
     let mut place = bound_of(ops, problem.earliest, later.next);
     while place > state.first {
         place -= 1;
+        if *asked == 0 {
+            return true;
+        }
+        *asked -= 1;
         if may_make(ops, effects, state, later, word, bits, place) {
             if depth == 0 {
                 return true;
@@ -149,6 +146,7 @@ pub(crate) fn has_maker(
                 wanted.bits,
                 mask,
                 depth - 1,
+                asked,
             ) {
                 return true;
             }
@@ -161,6 +159,7 @@ pub(crate) fn has_maker(
                     wanted.bits,
                     mask,
                     depth - 1,
+                    asked,
                 )
             {
                 return true;

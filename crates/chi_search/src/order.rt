@@ -16,6 +16,7 @@ use crate::at_once::{are_hopeless, are_hot, has_ended};
 use crate::earliest::earliest_starts;
 use crate::effect::effects_of;
 use crate::layer::first_layer;
+use crate::makers::FOLLOWED;
 use crate::parts::{add_parts, are_mostly_writes, parts_of};
 use crate::problem::Problem;
 use crate::progress::Progress;
@@ -136,7 +137,7 @@ pub(crate) fn order_from<P: Progress>(
     };
     let mut dead = no_states(alloc);
     let are_hot = are_hot(ops, &earliest);
-    if are_hot && are_hopeless(alloc, &problem, from, &mut dead)? {
+    if are_hot && are_hopeless(alloc, &problem, from, 0, &mut dead)? {
         return Ok(Found::Nothing);
     }
     // Most operations have an order that a plain search finds at once.
@@ -156,7 +157,7 @@ pub(crate) fn order_from<P: Progress>(
     if let Found::Order(_) | Found::Nothing = found {
         return Ok(found);
     }
-    if !are_hot && are_hopeless(alloc, &problem, from, &mut dead)? {
+    if are_hopeless(alloc, &problem, from, FOLLOWED, &mut dead)? {
         return Ok(Found::Nothing);
     }
     search_by_rules(alloc, &problem, from, &mut dead, budget, progress)

@@ -20,7 +20,7 @@ ghost use Rattle.std.specs.Prelude.{⊤};
 ///
 ///     fn before_verdict(&mut self) {}
 ///
-///     fn after_verdict(&mut self, _operations: usize) {}
+///     fn after_verdict(&mut self, _operations: usize, _pending: usize) {}
 ///
 ///     fn cut_short(&self) -> Option<u64> {
 ///         None
@@ -51,8 +51,9 @@ pub trait Progress {
     fn before_verdict(&mut self)
         ensures { (n : ℕ) → states self.old n → looked for_verdict self.new n };
 
-    /// A verdict of so many operations was found. The searches that follow only say more of it.
-    fn after_verdict(&mut self, operations: usize)
+    /// A verdict of so many operations was found, of a granule of which so many were pending at one time, at most. The searches that
+    /// follow only say more of it.
+    fn after_verdict(&mut self, operations: usize, pending: usize)
         ensures { (n : ℕ) → looked for_verdict self.old n → looked (after_verdict n) self.new n };
 
     /// How many states were looked at after the last verdict, where it then ended the searches that follow.
@@ -82,7 +83,7 @@ impl Progress for NoProgress {
 
     fn before_verdict(&mut self) {}
 
-    fn after_verdict(&mut self, _operations: usize) {}
+    fn after_verdict(&mut self, _operations: usize, _pending: usize) {}
 
     fn cut_short(&self) -> Option<u64> {
         None

@@ -4,10 +4,10 @@ ghost use Rattle.std.specs.Prelude.{◌≡◌, IfOk};
 ghost use Rattle.chi_verdict.specs.Doubts.{IsAsFar, IsDoubt};
 ghost use Rattle.chi_search.specs.Looks.{LookedSome};
 
-use crate::open::most_at_once;
+use crate::open::most_open;
 use chi_judge::Judge;
 use chi_search::Progress;
-use chi_trace::{Trace, operations_of};
+use chi_trace::Trace;
 use std::alloc::{AllocError, Global};
 
 /// What is said of a granule of which it was not found whether its operations can be explained.
@@ -46,11 +46,10 @@ pub fn doubt_of<P: Progress>(
     let ops = trace.operations();
     let word = trace.opening().word(granule);
     let judge = Judge::of_trace(alloc, ops, granule, word, 0)?;
-    let own = operations_of(alloc, ops, granule)?;
     Ok(Doubt {
         granule,
         states: budget,
         explained: judge.explained_to(alloc, budget, progress)?,
-        most_open: most_at_once(alloc, &own)?,
+        most_open: most_open(alloc, trace, granule)?,
     })
 }

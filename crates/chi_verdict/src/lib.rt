@@ -19,5 +19,6 @@ pub use doubt::{Doubt, doubt_of};
 pub use first::{Blame, First, first_unexplained};
 pub use grouped::Grouped;
 pub use held::words_held;
+pub use open::most_open;
 pub use to_the_end::legal_to_the_end;
 pub use verdict::{Verdict, explain};

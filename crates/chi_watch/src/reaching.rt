@@ -33,7 +33,7 @@ pub(crate) fn reach_of<P: Progress>(
     ensures undecided { IfOk result (λ found. IsOfSomeTrace kept.now.judge → IsReachedBy (P.looked for_verdict) progress.old progress.new budget found.reach found.cut_short) }
     ensures looked { IfOk result (λ _. Grew (P.looked for_verdict) progress.old progress.new) }
 {
-    progress.after_verdict(0);
+    progress.after_verdict(0, 0);
     let reach = kept.reach(alloc, budget, progress);
     let cut_short = progress.cut_short();
     progress.before_verdict();

@@ -25,7 +25,7 @@ impl Progress for States {
 
     fn before_verdict(&mut self) {}
 
-    fn after_verdict(&mut self, _operations: usize) {}
+    fn after_verdict(&mut self, _operations: usize, _pending: usize) {}
 
     fn cut_short(&self) -> Option<u64> {
         None

@@ -3,7 +3,7 @@ use Rattle.std.proofs.Common.{subst, sym}
 use Rattle.chi_search.specs.Paths.{AllDead}
 use Rattle.chi_search.proofs.DeadStates.{none_dead}
 use Rattle.chi_search.proofs.order.order_from.Goals as goal
-use Rattle.chi_search.proofs.order.order_from.Goals.{else-are_hot-via-else-are_hot, else-are_hot-via-then-are_hot+in_ok-are_hopeless+else-branch-2, else-not-are_hot-via-else-not-are_hot, else-not-are_hot-via-then-not-are_hot+in_ok-are_hopeless-2+else-branch-3}
+use Rattle.chi_search.proofs.order.order_from.Goals.{else-are_hot-via-else-are_hot, else-are_hot-via-then-are_hot+in_ok-are_hopeless+else-branch-2}
 
 pub returns-then-branch-2-clause-nothing : goal.returns-then-branch-2-clause-nothing
 returns-then-branch-2-clause-nothing g c = c.in_ok-are_hopeless.ensures.all c.if-branch-2.true
@@ -18,11 +18,3 @@ search_in_rounds-requires-clause-dead g c =
 
 pub returns-then-branch-3-clause-nothing : goal.returns-then-branch-3-clause-nothing
 returns-then-branch-3-clause-nothing g c = c.in_ok-are_hopeless-2.ensures.all c.if-branch-3.true
-
-pub search_by_rules-requires-clause-dead : goal.search_by_rules-requires-clause-dead
-search_by_rules-requires-clause-dead g c =
-    elim c.else-not-are_hot.branch [
-      | else-not-are_hot-via-then-not-are_hot+in_ok-are_hopeless-2+else-branch-3 w ↦
-          subst (AllDead c.args.ops.now c.args.final_word) (sym w.dead-is) w.in_ok-are_hopeless-2.ensures.dead
-      | else-not-are_hot-via-else-not-are_hot w ↦ subst (AllDead c.args.ops.now c.args.final_word) (sym w.dead-is) c.in_ok-found.ensures.dead
-    ]
