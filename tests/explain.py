@@ -84,18 +84,29 @@ def limits():
 
 def cut_short():
     """What follows a verdict may take 16 times its states, 64 for each operation, and 100,000, and of 200 that are pending at once the
-    fourth part of that: here the verdict takes none, since no operation leaves what one of them found, and up to most ends more orders
-    are possible than that."""
+    fourth part of that: here the verdict takes none, since no operation leaves what one of them found. Up to most ends the adds of 1
+    to 200 that are pending can leave more words than that."""
     began = time.monotonic()
-    status, out, errors = run(CHECKER, ["explain"], trace(adds_at_once(200, 150)))
+    status, out, errors = run(CHECKER, ["explain"], trace(adds_at_once(200, 150, step=1)))
     took, lines = time.monotonic() - began, out.decode().splitlines()
     told(f"cut_short: {status} {lines} {took}", (status, errors, lines[0]) == (1, b"", "not explained: granule 0000000000001000") and took < 60)
     told(f"cut_short: {lines}", lines[-1] == f"  what is not shown was not found within {(64 * 200 + 100000) // 4} more states")
-    few = run(CHECKER, ["explain"], trace(adds_at_once(12, 9)))[1].decode()
-    told(f"cut_short: 12 of them: {few}", "what is not shown" not in few and "\nat 1009: 1 1 30 " in few)
+
+
+def many_at_once():
+    """200 adds of 1 that are pending at once: the number that one of them has to answer is the one that the others leave out, and all
+    that can be said is found. So it is with all 200 pending at the time before, at which the granule can hold 201 words."""
+    for wrong, ends, words in [(150, 1150, None), (0, 1000, 201)]:
+        status, out, errors = run(CHECKER, ["explain"], trace(adds_at_once(200, wrong)))
+        lines = out.decode().splitlines()
+        told(f"many_at_once: {status} {lines}", (status, errors, lines[0]) == (1, b"", "not explained: granule 0000000000001000"))
+        told(f"many_at_once: {lines}", lines[1].startswith(f"at {ends}: {wrong % 8} 1 30 ") and not any("not shown" in it for it in lines))
+        told(f"many_at_once: {lines}", f"    legal would be:  returned {wrong.to_bytes(8, 'little').hex()}" in lines)
+        told(f"many_at_once: {lines}", lines[-1] == f"  a legal response of request {wrong} explains the granule to its end")
+        told(f"many_at_once: {lines}", words is None or f"  and {words - 16} more" in lines)
 
 
 build("chihome", "chicheck")
-for tried in [witnesses, blames, too_long, limits, cut_short]:
+for tried in [witnesses, blames, too_long, limits, cut_short, many_at_once]:
     tried()
 end(30)

@@ -98,15 +98,18 @@ def example(name):
 
 
 def sums(count):
-    """Overlapping adds of even numbers, each a bit of its own, and a read beside them that answered an odd one. Each set of adds
-    that is taken is a state, and none is right."""
+    """Overlapping adds of even numbers, each a bit of its own, and a read beside them that answered an odd one, which is 1 more than the
+    greatest of them. Each set of the others is a state, and none is right."""
     bits = [(2 << it).to_bytes(8, "little").hex() for it in range(count)]
     adds = [request(it, 40, 4096, 255, bits[it].ljust(32, "0"), 0, 9, "comp") for it in range(count)]
-    return [*adds, request(count, 4, 4096, 0, f"{0:032x}", 0, 9, f"01{0:030x}")]
+    found = ((1 << count) + 1).to_bytes(8, "little").hex().ljust(32, "0")
+    return [*adds, request(count, 4, 4096, 0, f"{0:032x}", 0, 9, found)]
 
 
-def adds_at_once(count, wrong):
-    """So many adds of 1 that are all open at once, executed in the order of their numbers. The answer of one has a bit that no add of
-    them makes."""
-    found = [(it ^ (1 << 40 if it == wrong else 0)).to_bytes(8, "little").hex() for it in range(count)]
-    return [request(it % 8, 48, 4096, 255, f"01{0:030x}", 0, 1000 + 37 * it % count, found[it].ljust(32, "0")) for it in range(count)]
+def adds_at_once(count, wrong, step=0):
+    """So many adds that are all open at once, executed in the order of their numbers. The first adds 1, and each later one the step
+    more. The answer of one has a bit that no add of them makes."""
+    added = [1 + step * it for it in range(count)]
+    found = [(sum(added[:it]) ^ (1 << 40 if it == wrong else 0)).to_bytes(8, "little").hex() for it in range(count)]
+    sent = [it.to_bytes(8, "little").hex().ljust(32, "0") for it in added]
+    return [request(it % 8, 48, 4096, 255, sent[it], 0, 1000 + 37 * it % count, found[it].ljust(32, "0")) for it in range(count)]

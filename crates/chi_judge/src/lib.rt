@@ -2,6 +2,7 @@
 #![tactic(auto)]
 
 mod ahead;
+mod answers;
 mod explained;
 mod forgetting;
 mod judge;

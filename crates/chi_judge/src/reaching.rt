@@ -116,7 +116,16 @@ impl Judge {
             return Ok(Reach::Undecided);
         };
         let words = self.words_before(alloc, ops, time, budget, progress)?;
-        let legal = legal_replies(alloc, &self.before, ops, time, blamed, budget, progress)?;
+        let legal = legal_replies(
+            alloc,
+            &self.before,
+            ops,
+            time,
+            blamed,
+            &words,
+            budget,
+            progress,
+        )?;
         Ok(Reach::Stops(Stop {
             time,
             op: ops[blamed],

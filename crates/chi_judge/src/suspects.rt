@@ -38,7 +38,7 @@ fn is_suspect<P: Progress>(
 }
 
 /// The number of the request of the operation at a place.
-fn number_at(ops: &[Operation], place: usize) -> u64
+pub(crate) fn number_at(ops: &[Operation], place: usize) -> u64
     ensures { result ≡ (at ops.now place).number }
 {
     match ops.get(place) {

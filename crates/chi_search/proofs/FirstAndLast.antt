@@ -4,6 +4,9 @@ use Rattle.std.specs.List.{Contains}
 use Rattle.chi_trace.specs.declared.operation.Operation.{Operation}
 use Rattle.chi_trace.specs.Granules.{Finishes}
 use Rattle.chi_search.specs.declared.states.States.{States}
+use Rattle.chi_search.specs.declared.words.Words.{Words}
+use Rattle.chi_search.specs.declared.words.Words.TheVariants.{Each, Unknown}
+use Rattle.chi_search.specs.Found.{IfWords}
 use Rattle.chi_search.specs.Frontiers.{AreEnds}
 use Rattle.chi_search.specs.Layers.{AreReady, SomeEnds, SomeLeads}
 use Rattle.chi_search.specs.Positions.{IsReady, Position, is_left, start}
@@ -60,3 +63,9 @@ last_leads ops Leading each layer past are leads v = (forth, back)
       where
         at_last : SomeEnds ops layer v → Contains each v
         at_last (p, has, (x, c)) = (are v).1 (p, has, at_end ops (Some v) p x (past p has) c)
+
+-- words of which the one is true, where the other is too
+pub words_lead : (Ending Leading : ℕ → Type 0) → ((v : ℕ) → Ending v ↔ Leading v) → (found : Words) → IfWords found (λ each. (v : ℕ) → Contains each v ↔ Ending v)
+    → IfWords found (λ each. (v : ℕ) → Contains each v ↔ Leading v)
+words_lead Ending Leading same Unknown are = tt
+words_lead Ending Leading same (Each each) are = λ v. chained (Contains each.items v) (Ending v) (Leading v) (are v) (same v)

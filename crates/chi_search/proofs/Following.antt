@@ -6,6 +6,7 @@ use Rattle.chi_trace.specs.declared.operation.Operation.{Operation}
 use Rattle.chi_trace.specs.Explains.{at}
 use Rattle.chi_trace.specs.Granules.{Fits, next}
 use Rattle.chi_trace.proofs.Segments.{at_earlier}
+use Rattle.chi_search.specs.Equal.{AreEqual, HasEqualBefore}
 use Rattle.chi_search.specs.Layers.{CanStart, ComeAfter, MayFollow}
 use Rattle.chi_search.specs.Moves.{CanCome, Drops, Takes}
 use Rattle.chi_search.specs.Positions.{IsReady, Position, is_left, is_unsettled}
@@ -35,6 +36,15 @@ comes_back ops more p i first below comes =
     let start : (at (ops ++ more) i).start ≡ (at ops i).start = ap (λ (o : Operation). o.start) (at_before ops more i below) in
     let end : (at (ops ++ more) p.first).end ≡ (at ops p.first).end = ap (λ (o : Operation). o.end) (at_before ops more p.first first) in
     (left_back ops more p i below comes.0, omega (arith, start, end, comes.1))
+
+-- an equal operation stands before the place still
+pub equal_on : (ops more : List Operation) (p : Position) (k : ℕ) → p.first < length ops → k < length ops → HasEqualBefore ops p k → HasEqualBefore (ops ++ more) p k
+equal_on ops more p k first below (i, before, equal, comes) = (i, before, same, comes_on ops more p i first comes)
+  where
+    same : AreEqual (at (ops ++ more) k) (at (ops ++ more) i)
+    same =
+        subst (λ (o : Operation). AreEqual o (at (ops ++ more) i)) (sym (at_before ops more k below))
+        (subst (AreEqual (at ops k)) (sym (at_before ops more i (left_is (length ops) p i comes.0).0)) equal)
 
 pub takes_on : (ops more : List Operation) (p q : Position) (i : ℕ) → i < length ops → Takes ops p i q → Takes (ops ++ more) p i q
 takes_on ops more p q i below takes = record {

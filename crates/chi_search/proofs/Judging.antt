@@ -6,12 +6,15 @@ use Rattle.chi_trace.specs.Explains.{at}
 use Rattle.chi_trace.specs.Granules.{Finishes, last_word}
 use Rattle.chi_search.specs.declared.order.Found.{Found}
 use Rattle.chi_search.specs.declared.order.Found.TheVariants.{Nothing, Order, Undecided}
-use Rattle.chi_search.specs.Found.{IfNothing, IfOrder}
+use Rattle.chi_search.specs.declared.words.Words.{Words}
+use Rattle.chi_search.specs.declared.words.Words.TheVariants.{Each, Unknown}
+use Rattle.chi_search.specs.Found.{IfNothing, IfOrder, IfWords}
 use Rattle.chi_search.specs.Frontiers.{AreEnds, EndsWith, Follows, FrontierValue, GoesOn}
 use Rattle.chi_search.specs.Layers.{SomeLeads}
 use Rattle.chi_search.specs.Moves.{Ends}
 use Rattle.chi_search.specs.Paths.{IsDead}
 use Rattle.chi_search.specs.Positions.{Position, is_left}
+use Rattle.chi_search.proofs.FirstAndLast.{chained}
 use Rattle.chi_search.proofs.Telling.{none_told}
 
 -- an order leaves the last word of its operations, and some word
@@ -79,3 +82,16 @@ pub nothing_leads : (f : FrontierValue) (final_word : Option ℕ) (found : Found
 nothing_leads f final_word (Order places) none = tt
 nothing_leads f final_word Undecided none = tt
 nothing_leads f final_word Nothing dead = none_leads f final_word dead
+
+-- each word to which the search goes on, and each to which what was told leads
+abbrev pub AreLed : FrontierValue → List ℕ → Type 0
+AreLed f each = (v : ℕ) → Contains each v ↔ ((p : Position) × Contains f.positions p × Ends f.operations (Some v) p)
+
+abbrev pub AreTold : FrontierValue → List ℕ → Type 0
+AreTold f each = (words : List ℕ) (told : List Operation) → Follows words told f → (v : ℕ) → Contains each v ↔ SomeLeads told words v
+
+pub words_told : (f : FrontierValue) (found : Words) → IfWords found (AreLed f) → IfWords found (AreTold f)
+words_told f Unknown are = tt
+words_told f (Each each) are = λ words told follows v.
+    let here = follows_now words told f v follows in
+    chained (Contains each.items v) ((p : Position) × Contains f.positions p × Ends f.operations (Some v) p) (SomeLeads told words v) (are v) (here.1, here.0)

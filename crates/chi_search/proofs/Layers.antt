@@ -1,19 +1,22 @@
 -- the sets of states of a search by layers, and the words that can follow
-use Rattle.std.proofs.Common.{◌≡◌, ℕ, ◌+◌, ◌-◌, ◌^◌, ◌<◌, ◌≤◌, ◌⊎◌, ◌↔◌, All, List, [], ◌∷◌, ◌++◌, length-append, length, None, Option, Some, sym, ap, subst, arith, inl, inr, below_more}
+use Rattle.std.proofs.Common.{◌≡◌, ℕ, ◌+◌, ◌-◌, ◌^◌, ◌<◌, ◌≤◌, ◌⊎◌, ◌↔◌, All, List, [], ◌∷◌, ◌++◌, append-nil, false, true≢false, is_some, length-append, length, None, Option, Some, refl, sym, ap, subst, ◌∙◌, arith, inl, inr, below_more}
 use Rattle.std.proofs.lemmas.Bool.{cases_lt}
 use Rattle.std.specs.Prelude.{slice_get}
-use Rattle.std.proofs.lemmas.List.Elements.{Contains-get_or}
+use Rattle.std.proofs.lemmas.List.Elements.{All-head, Contains-get_or}
 use Rattle.std.proofs.lemmas.Option.{get_or_from_slice_get, slice_get_within}
 use Rattle.chi_trace.specs.declared.operation.Operation.{Operation}
 use Rattle.chi_trace.specs.Explains.{at, nothing}
 use Rattle.chi_trace.specs.Granules.{Fits}
 use Rattle.chi_trace.proofs.Segments.{at_later}
 use Rattle.chi_search.specs.declared.states.States.{States}
-use Rattle.chi_search.specs.Layers.{AreReady, AreWaiting, EitherEnds, SomeEnds, Waits}
+use Rattle.chi_search.specs.Equal.{HasEqualBefore}
+use Rattle.chi_search.specs.Layers.{AreReady, AreWaiting, CanStart, EitherEnds, MayFollow, SomeEnds, Waits}
 use Rattle.chi_search.specs.Moves.{ByTaking, CanCome, Drops, Ends, IsIdle, Takes}
+use Rattle.chi_search.specs.Paths.{IsDead}
 use Rattle.chi_search.specs.Positions.{IsReady, Position}
 use Rattle.chi_search.specs.Searchable.{AreSorted}
 use Rattle.chi_search.specs.StateSets.{Has, positions}
+use Rattle.chi_search.proofs.ByEqual.{by_equal}
 use Rattle.chi_search.proofs.Moves.{ByDropping, from_dropped, from_idle, from_taken, goes_on}
 use Rattle.chi_search.proofs.Settling.{left_is}
 use Rattle.chi_search.proofs.Following.{at_before}
@@ -80,6 +83,16 @@ grown_refused ops old now p k grown refused = record {
   forth = grown.forth;
   back = grown.back;
   tried = λ v. below_more (λ i. ByTaking ops (Some v) p i → SomeEnds ops now v) k (grown.tried v) (λ taking. absurd (refused taking.0 taking.1));
+}
+
+-- each order that begins by it has one that begins by an equal one before it
+pub grown_equal : (ops : List Operation) (old now : States) (p : Position) (k : ℕ) → Grown ops old now p k → AreSorted ops → HasEqualBefore ops p k
+    → Grown ops old now p (k + 1)
+grown_equal ops old now p k grown sorted (i, before, equal, comes) = record {
+  forth = grown.forth;
+  back = grown.back;
+  tried = λ v. below_more (λ j. ByTaking ops (Some v) p j → SomeEnds ops now v) k (grown.tried v)
+      (λ taking. grown.tried v i before (by_equal ops (Some v) p k i sorted (omega (arith, before)) equal comes taking));
 }
 
 -- orders that begin by it go on from the state after it
@@ -222,6 +235,26 @@ more_states ops new old waiting p whole v = one_more (whole v) same same
 
 pub more_waiting : (ops : List Operation) (states new old : States) (p : Position) → IsWhole ops new old p → IsOneMore ops states new states old p
 more_waiting ops states new old p whole v = one_more (whole v) (swapped same) (swapped same)
+
+-- No operation comes later: so no order goes on from a dead state.
+nothing_more : (ops more : List Operation) → MayFollow ops None more → more ≡ []
+nothing_more ops [] follow = refl
+nothing_more ops (x ∷ more) follow = absurd (All-head (CanStart None) x more follow.later)
+
+dead_now : (ops : List Operation) (v : ℕ) (p : Position) → IsDead ops None p → Ends ops (Some v) p → ⊥
+dead_now ops v p dead (x, c) = dead (x, record { done = c.done; once = c.once; times = c.times; plays = c.plays; ending = tt })
+
+pub none_is : (horizon : Option ℕ) → is_some horizon ≡ false → horizon ≡ None
+none_is None is = refl
+none_is (Some time) is = absurd (true≢false is)
+
+pub dead_adds : (ops more : List Operation) (horizon : Option ℕ) (states waiting : States) (p : Position) → horizon ≡ None → IsDead ops None p → MayFollow ops horizon more
+    → IsOneMore (ops ++ more) states waiting states waiting p
+dead_adds ops more horizon states waiting p none dead follow v =
+    (inl, λ some. elim some [ inl before ↦ before | inr ends ↦ absurd (dead_now ops v p dead (subst (λ (all : List Operation). Ends all (Some v) p) same ends)) ])
+  where
+    same : ops ++ more ≡ ops
+    same = ap (λ (m : List Operation). ops ++ m) (nothing_more ops more (subst (λ (h : Option ℕ). MayFollow ops h more) none follow)) ∙ append-nil ops
 
 pub waiting_more : (ops : List Operation) (horizon : Option ℕ) (new old : States) (s : Position) → IsAdded new old s → IsReady (length ops) s
     → Waits ops horizon s.first → AreWaiting ops horizon old → AreWaiting ops horizon new

@@ -5,6 +5,8 @@ pub mod ByEqual
 pub mod Carries
 pub mod Combining
 pub mod CommutingPair
+pub mod Counters
+pub mod Counts
 pub mod Covers
 pub mod DeadStates
 pub mod Dropped
@@ -38,6 +40,7 @@ pub mod Runs
 pub mod SameSums
 pub mod Sets
 pub mod Settling
+pub mod Spans
 pub mod Spelled
 pub mod Start
 pub mod Sums

@@ -65,7 +65,7 @@ either_first op endian addr len s t m y long_s long_t some is_s is_t is =
 abbrev pub sent_by : Access → List ℕ
 sent_by o = sent o.lanes (lane_of o.addr) o.len
 
-bytes_sent : (o : Access) → IsLawful o → AreBytes (sent_by o)
+pub bytes_sent : (o : Access) → IsLawful o → AreBytes (sent_by o)
 bytes_sent o lawful = AreBytes-slice_range o.lanes (lane_of o.addr) (lane_of o.addr + o.len) lawful.bytes
 
 -- an access that is a store on an operand

@@ -11,12 +11,12 @@ use Rattle.chi_search.specs.Layers.{MayFollow, SomeEnds, SomeLeads, Waits}
 use Rattle.chi_search.specs.Moves.{Ends}
 use Rattle.chi_search.specs.Paths.{AreReached}
 use Rattle.chi_search.specs.Positions.{IsReady, Position, back_by, is_left}
-use Rattle.chi_search.specs.Searchable.{AreByEnd}
+use Rattle.chi_search.specs.Searchable.{AreByEnd, AreSorted}
 use Rattle.chi_search.specs.StateSets.{Has, positions}
 use Rattle.chi_search.proofs.Dropped.{drop_settled, left_there, same_undropped, undropped, unsettled_there}
 use Rattle.chi_search.proofs.FirstAndLast.{chained}
 use Rattle.chi_search.proofs.Reached.{ends_reached}
-use Rattle.chi_search.proofs.Telling.{may_earlier, may_follow, none_follow, none_told}
+use Rattle.chi_search.proofs.Telling.{may_earlier, may_follow, none_follow}
 
 at_drop : (k : ℕ) (ops : List Operation) (i : ℕ) → at (drop k ops) i ≡ at ops (k + i)
 at_drop k ops i = get_or-drop k ops i nothing
@@ -137,22 +137,16 @@ ready_copied ops states from copied all p has =
     let whole : length ops - 0 ≡ length ops = omega arith in
     subst (IsReady (length ops)) (sym of.2) (subst (λ n. IsReady n (back_by 0 of.0)) whole (ready_back (length ops) 0 of.0 (omega arith) (omega arith) (all of.0 of.1)))
 
--- what is told leads to the words to which the search goes on by itself
-pub follows_all : (words : List ℕ) (told : List Operation) (f : FrontierValue) (states from last : States) → IsFrontier f → f.positions ≡ positions states → AreBack 0 from states
-    → ((more : List Operation) → MayFollow f.operations None more → (v : ℕ) → SomeEnds (f.operations ++ more) last v ↔ SomeEnds (f.operations ++ more) from v)
-    → Follows words told f → (v : ℕ) → SomeEnds f.operations last v ↔ SomeLeads told words v
-follows_all words told f states from last is same copied goes follows v =
-    let ops = f.operations in
-    let here : SomeLeads told words v ↔ SomeEnds ops states v =
-    subst (λ (all : List Operation). SomeLeads all words v ↔ SomeEnds ops states v) (append-nil told)
-    (subst (λ (all : List Operation). SomeLeads (told ++ []) words v ↔ SomeEnds all states v) (append-nil ops)
-    (subst (λ (ps : List Position). SomeLeads (told ++ []) words v ↔ ((p : Position) × Contains ps p × Ends (ops ++ []) (Some v) p)) same (follows.leads [] (none_told f) v))) in
+-- the words of the last states are those to which the states themselves lead
+pub ends_all : (ops : List Operation) (states from last : States) → AreSorted ops → AreBack 0 from states
+    → ((more : List Operation) → MayFollow ops None more → (v : ℕ) → SomeEnds (ops ++ more) last v ↔ SomeEnds (ops ++ more) from v)
+    → (v : ℕ) → SomeEnds ops last v ↔ SomeEnds ops states v
+ends_all ops states from last sorted copied goes v =
     let first : SomeEnds ops states v ↔ SomeEnds ops from v =
     subst (λ (all : List Operation). SomeEnds all states v ↔ SomeEnds all from v) (append-nil ops) (goes_back ops [] 0 v states from (omega arith) (λ p has. omega arith) copied) in
     let on : SomeEnds ops last v ↔ SomeEnds ops from v =
-    subst (λ (all : List Operation). SomeEnds all last v ↔ SomeEnds all from v) (append-nil ops) (goes [] (none_follow ops is.sorted) v) in
-    chained (SomeEnds ops last v) (SomeEnds ops from v) (SomeLeads told words v) on
-    (chained (SomeEnds ops from v) (SomeEnds ops states v) (SomeLeads told words v) (first.1, first.0) (here.1, here.0))
+    subst (λ (all : List Operation). SomeEnds all last v ↔ SomeEnds all from v) (append-nil ops) (goes [] (none_follow ops sorted) v) in
+    chained (SomeEnds ops last v) (SomeEnds ops from v) (SomeEnds ops states v) on (first.1, first.0)
 
 -- a copy of the states is a search that may go on
 pub frontier_copied : (f : FrontierValue) (states back : States) → f.positions ≡ positions states → AreBack 0 back states → IsFrontier f → IsFrontier (record f { positions = positions back })

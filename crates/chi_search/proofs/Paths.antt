@@ -9,12 +9,13 @@ use Rattle.chi_trace.specs.Granules.{Finishes, Fits}
 use Rattle.chi_search.specs.declared.path.Step.{Step}
 use Rattle.chi_search.specs.declared.states.States.{States}
 use Rattle.chi_search.specs.Commuting.{GoesFirst}
-use Rattle.chi_search.specs.Equal.{GoesOnBefore}
+use Rattle.chi_search.specs.Equal.{HasEqualBefore}
 use Rattle.chi_search.specs.Moves.{ByTaking, CanCome, IsIdle, Takes}
 use Rattle.chi_search.specs.Paths.{AllDead, AreTried, AreTriedBefore, IsDead, Moves, Walks, after_op, taken}
 use Rattle.chi_search.specs.Positions.{IsReady, Position, is_left, position_of}
 use Rattle.chi_search.specs.Searchable.{AreSorted}
 use Rattle.chi_search.specs.StateSets.{Has}
+use Rattle.chi_search.proofs.ByEqual.{by_equal}
 use Rattle.chi_search.proofs.Moves.{ByDropping, from_dropped, from_idle, from_taken, goes_on}
 use Rattle.chi_search.proofs.Settling.{left_is}
 
@@ -142,7 +143,7 @@ pub first_refused : (ops : List Operation) (final_word : Option ℕ) (p : Positi
 first_refused ops final_word p i first refused ends = let taking = first final_word ends in refused taking.0 taking.1
 
 -- an operation where an order goes on by one before it too, which was tried
-pub equal_more : (ops : List Operation) (final_word : Option ℕ) (dead : States) (p : Position) (k : ℕ) → Tried ops final_word dead p k → GoesOnBefore ops p k
-    → Tried ops final_word dead p (k + 1)
-equal_more ops final_word dead p k tried equal all =
-    below_more (λ i. ByTaking ops final_word p i → ⊥) k (tried all) (λ taking. tried all equal.0 equal.1 (equal.2 final_word taking))
+pub equal_more : (ops : List Operation) (final_word : Option ℕ) (dead : States) (p : Position) (k : ℕ) → AreSorted ops → Tried ops final_word dead p k
+    → HasEqualBefore ops p k → Tried ops final_word dead p (k + 1)
+equal_more ops final_word dead p k sorted tried (i, before, equal, comes) all =
+    below_more (λ j. ByTaking ops final_word p j → ⊥) k (tried all) (λ taking. tried all i before (by_equal ops final_word p k i sorted (omega (arith, before)) equal comes taking))

@@ -56,6 +56,12 @@ part_of m n k one =
     let both : min (bit_at m k) (bit_at n k) ≡ 1 = sym (bit_at_and m n k) ∙ one in
     (omega (arith, both, bit_at-lt m k, bit_at-lt n k), omega (arith, both, bit_at-lt m k, bit_at-lt n k))
 
+-- a mask that keeps all bits of another one has them
+pub has_part : (m bits : ℕ) → bit_and m bits ≡ bits → IsPart bits m
+has_part m bits same k one =
+    let kept : min (bit_at m k) (bit_at bits k) ≡ bit_at bits k = sym (bit_at_and m bits k) ∙ ap (λ n. bit_at n k) same in
+    omega (arith, kept, one, bit_at-lt m k)
+
 -- the bits of both masks are bits of the second
 pub both : (m n : ℕ) → IsPart (bit_and m n) n
 both m n k one = (part_of m n k one).1

@@ -3,7 +3,7 @@ use Rattle.std.specs.Prelude.{◌≡◌, ℕ, ◌≤◌, List, [], ◌∷◌, �
 use Rattle.std.specs.List.{Contains}
 use Rattle.chi_trace.specs.declared.operation.Operation.{Operation}
 use Rattle.chi_trace.specs.Explains.{at, is_place}
-use Rattle.chi_trace.specs.Granules.{Finishes}
+use Rattle.chi_trace.specs.Granules.{Finishes, Play, last_word}
 use Rattle.chi_search.specs.Layers.{SomeLeads}
 use Rattle.chi_search.specs.Moves.{Ends}
 use Rattle.chi_search.specs.Positions.{IsReady, Position, is_left, start}
@@ -42,6 +42,10 @@ pub record MayBeTold (f : FrontierValue) (more : List Operation) : Type 0 where
 -- by the operations that it knows and these the search goes on to the word
 abbrev pub GoesOn : FrontierValue → List Operation → ℕ → Type 0
 GoesOn f more v = (p : Position) × Contains f.positions p × Ends (f.operations ++ more) (Some v) p
+
+-- from one of the positions the operations at these places fit, one after the other, and leave the word
+abbrev pub LeavesAlong : FrontierValue → List ℕ → ℕ → Type 0
+LeavesAlong f order v = (p : Position) × Contains f.positions p × Play f.operations p.word order × (last_word f.operations p.word order ≡ v)
 
 -- an order of all these operations, from one of the words on, whose last operations are those
 pub record EndsWith (told : List Operation) (words : List ℕ) (ops : List Operation) : Type 0 where

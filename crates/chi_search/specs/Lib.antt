@@ -1,5 +1,6 @@
 pub mod Choices
 pub mod Commuting
+pub mod Counters
 pub mod Effects
 pub mod Equal
 pub mod Found

@@ -1,4 +1,5 @@
--- how many states were looked at
+-- How many states were looked at. A search breadth first that found more than it may look at counts as many of them as were left,
+-- too.
 use Rattle.std.specs.Prelude.{ℕ, ◌+◌, ◌≤◌, Option, MatchOption}
 
 -- The searches in which states are counted: those for a verdict, and those that only say more of one, which was found once so many

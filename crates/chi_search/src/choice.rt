@@ -26,7 +26,7 @@ use chi_trace::Operation;
 use std::alloc::AllocError;
 
 /// How many operations are looked at for makers at a state.
-const LOOKED_AT: usize = 64;
+pub(crate) const LOOKED_AT: usize = 64;
 
 /// What can be done at a state: nothing, since none is left and the word is the observed one; a step, by an operation that
 /// is taken, or without one where the first is left out, with the place before which all operations were tried, and whether no other
@@ -193,7 +193,7 @@ pub(crate) fn choose(
     while place < ops.len() {
         if take(ops, state, place, next)?
             && !has(dead, next)
-            && !has_equal_before(ops, earliest, state, place, with_rules)
+            && !has_equal_before(ops, problem.effects, state, place)
         {
             return Ok(Choice::Step {
                 op: Some(place),

@@ -1,17 +1,18 @@
 //! Operations that do the same, of which one need be tried.
 
 ghost use Rattle.std.specs.Prelude.{◌≡◌, ◌<◌, IsTrue, length};
-ghost use Rattle.chi_search.specs.Equal.{AreEqual, GoesOnBefore};
-ghost use Rattle.chi_search.specs.Paths.{AreEarliest};
-ghost use Rattle.chi_search.specs.Positions.{IsReady, position_of};
-ghost use Rattle.chi_search.specs.Searchable.{AreSorted};
+ghost use Rattle.chi_search.specs.Equal.{AreEqual, HasEqualBefore};
+ghost use Rattle.chi_search.specs.Positions.{position_of};
 
 use crate::at_word::is_same;
-use crate::earliest::EarliestStarts;
+use crate::effect::Effect;
 use crate::state::{State, is_left};
 use chi_fields::Access;
 use chi_lanes::Reply;
 use chi_trace::Operation;
+
+/// How many operations before a place are asked whether they are equal.
+const LOOKED_BACK: usize = 256;
 
 /// Whether two operands are the same bytes, in the same byte order.
 pub(crate) fn is_same_operand(access: &Access, other: &Access) -> bool
@@ -56,32 +57,34 @@ pub(crate) fn are_equal(op: &Operation, other: &Operation) -> bool
     is_same_seen(op.reply, other.reply) && is_same_access(&op.access, &other.access)
 }
 
-/// Whether an equal operation that can come next as well stands before the place, where it is asked for.
+/// Whether an equal operation that can come next as well stands before the place, not far from it, where something is known of the
+/// operations.
 pub(crate) fn has_equal_before(
     ops: &[Operation],
-    earliest: &EarliestStarts,
+    effects: &[Effect],
     state: &State,
     place: usize,
-    is_asked: bool,
 ) -> bool
-    requires sorted { AreSorted ops.now }
-    requires earliest { AreEarliest ops.now earliest.now }
-    requires ready { IsReady (length ops.now) (position_of state.now) }
     requires first { state.now.first < length ops.now }
     requires place { place < length ops.now }
-    ensures { IsTrue result → GoesOnBefore ops.now (position_of state.now) place }
+    ensures { IsTrue result → HasEqualBefore ops.now (position_of state.now) place }
 {
-    if !is_asked {
+    if effects.len() < ops.len() {
         return false;
     }
     let end = ops[state.first].end;
     let op = &ops[place];
-    let mut before = earliest.next(ops, state.first, end);
-    while before < place {
-        if are_equal(op, &ops[before]) && is_left(state, ops.len(), before) {
+    let from = state.first.max(place.saturating_sub(LOOKED_BACK));
+    for before in from..place {
+        // Of most it is seen by what they find and leave that they are not equal.
+        if effects[before].found == effects[place].found
+            && effects[before].left == effects[place].left
+            && ops[before].start <= end
+            && is_left(state, ops.len(), before)
+            && are_equal(op, &ops[before])
+        {
             return true;
         }
-        before = earliest.next(ops, before + 1, end);
     }
     false
 }

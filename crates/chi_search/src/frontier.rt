@@ -11,12 +11,12 @@ ghost use Rattle.chi_search.specs.Layers.{SomeLeads, Waits};
 ghost use Rattle.chi_search.specs.Looks.{LookedMore};
 ghost use Rattle.chi_search.specs.Positions.{Position, is_left};
 
-use crate::layer::{advance, first_layer, words_in};
+use crate::layer::{advance, first_layer};
 use crate::order::{Found, order_from};
 use crate::passing::{moved_back, passed};
 use crate::progress::Progress;
 use crate::states::States;
-use crate::words::Words;
+use crate::words::{Words, words_from};
 use chi_fields::ADDRESSES;
 use chi_trace::Operation;
 use std::alloc::{AllocError, Global};
@@ -142,6 +142,7 @@ impl Frontier {
             alloc,
             &self.operations,
             Some(horizon),
+            false,
             most,
             from,
             budget,
@@ -215,24 +216,7 @@ impl Frontier {
         ensures unknown { IfOk result (λ found. IfUnknown found (budget.new ≡ 0)) }
         ensures spends { IfOk result (λ found. (budget.new ≤ budget.old) × LookedMore P.looked progress.old progress.new (budget.old - budget.new)) }
     {
-        // That the budget is one of 64 bits is known here once it is read.
-        let _budget = *budget;
-        let from = moved_back(alloc, &self.states, 0)?;
-        match advance(
-            alloc,
-            &self.operations,
-            None,
-            usize::MAX,
-            from,
-            budget,
-            progress,
-        )? {
-            Some(last) => {
-                let each = words_in(alloc, &last)?;
-                Ok(Words::Each(each))
-            }
-            None => Ok(Words::Unknown),
-        }
+        words_from(alloc, &self.operations, &self.states, budget, progress)
     }
 
     /// The operations that it keeps, in the order in which they were told.

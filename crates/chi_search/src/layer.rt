@@ -1,116 +1,26 @@
 //! Sets of states, each one move after those of the one before.
 
-ghost use Rattle.std.specs.Prelude.{◌≡◌, ◌≢◌, ℕ, ◌+◌, ◌-◌, ◌<◌, ◌≤◌, ◌⊎◌, ◌↔◌, IfOk, IfSome, IsTrue, List, None, ◌++◌, OnOk, false, length};
+ghost use Rattle.std.specs.Prelude.{◌≡◌, ◌≢◌, ℕ, ◌+◌, ◌-◌, ◌<◌, ◌≤◌, ◌⊎◌, ◌↔◌, IfOk, IfSome, List, None, ◌++◌, length};
 ghost use Rattle.std.specs.List.{AllPairs, Contains};
 ghost use Rattle.chi_trace.specs.declared.operation.Operation.{Operation};
-ghost use Rattle.chi_trace.specs.Explains.{at};
 ghost use Rattle.chi_search.specs.declared.states.States.{States};
-ghost use Rattle.chi_search.specs.Layers.{AreReady, AreWaiting, ComeAfter, EitherEnds, MayFollow, SomeEnds, Waits};
+ghost use Rattle.chi_search.specs.Layers.{AreReady, AreWaiting, EitherEnds, MayFollow, SomeEnds, Waits};
 ghost use Rattle.chi_search.specs.Looks.{LookedMore};
-ghost use Rattle.chi_search.specs.Moves.{Ends};
-ghost use Rattle.chi_search.specs.Paths.{AreBothReached, AreEarliest, AreReached, IsReached};
-ghost use Rattle.chi_search.specs.Positions.{IsReady, Position, position_of, start};
+ghost use Rattle.chi_search.specs.Paths.{AreBothReached, AreReached};
+ghost use Rattle.chi_search.specs.Positions.{Position, start};
+ghost use Rattle.chi_search.specs.Problems.{IsProblem};
 ghost use Rattle.chi_search.specs.Searchable.{AreSorted, AreWithin};
 ghost use Rattle.chi_search.specs.StateSets.{Has, positions};
 
-use crate::choice::{idle_next, leave_out, take};
-use crate::earliest::{EarliestStarts, earliest_starts};
+use crate::earliest::earliest_starts;
+use crate::effect::effects_of;
+use crate::moving::put_next;
+use crate::problem::Problem;
 use crate::progress::Progress;
 use crate::state::{State, first_state};
-use crate::states::{States, add, count, has, no_states, read};
+use crate::states::{States, add_new, count, no_states, read};
 use chi_trace::Operation;
 use std::alloc::{AllocError, Global};
-
-/// Adds a state to the set, where it is not there.
-pub(crate) fn add_new(alloc: Global, states: &mut States, state: &State) -> Result<(), AllocError>
-    ensures has { OnOk result ((p : Position) → Has states.new p ↔ (Has states.old p ⊎ (p ≡ position_of state.now))) }
-    ensures count { OnOk result (length (positions states.new) ≤ length (positions states.old) + 1) }
-{
-    if has(states, state) {
-        return Ok(());
-    }
-    add(alloc, states, state)
-}
-
-/// Adds each state that follows a state by one move. Where an operation that changes nothing can come next, the state after it
-/// stands for all.
-fn add_moves(
-    alloc: Global,
-    ops: &[Operation],
-    earliest: &EarliestStarts,
-    state: &State,
-    next: &mut State,
-    states: &mut States,
-) -> Result<(), AllocError>
-    requires sorted { AreSorted ops.now }
-    requires within { AreWithin ops.now }
-    requires earliest { AreEarliest ops.now earliest.now }
-    requires first { state.now.first < length ops.now }
-    requires ready { IsReady (length ops.now) (position_of state.now) }
-    ensures ends { OnOk result ((more : List Operation) → ComeAfter ops.now (at ops.now state.now.first).end more → (v : ℕ) → SomeEnds (ops.now ++ more) states.new v ↔ (SomeEnds (ops.now ++ more) states.old v ⊎ Ends (ops.now ++ more) (Some v) (position_of state.now))) }
-    ensures ready { OnOk result (AreReady ops.now states.old → AreReady ops.now states.new) }
-    ensures reached { OnOk result ((from : States) → IsReached ops.now from (position_of state.now) → AreReached ops.now from states.old → AreReached ops.now from states.new) }
-{
-    if let Some(place) = idle_next(ops, &[], earliest, state) {
-        if take(ops, state, place, next)? {
-            return add_new(alloc, states, next);
-        }
-    }
-    let end = ops[state.first].end;
-    let mut place = earliest.next(ops, state.first, end);
-    while place < ops.len() {
-        if take(ops, state, place, next)? {
-            add_new(alloc, states, next)?;
-        }
-        place = earliest.next(ops, place + 1, end);
-    }
-    if leave_out(ops, state, next)? {
-        add_new(alloc, states, next)?;
-    }
-    Ok(())
-}
-
-/// Whether a search waits that came to this first operation: none is left, or one that comes later might come next.
-fn waits(ops: &[Operation], horizon: Option<u64>, first: usize) -> bool
-    ensures waits { IsTrue result → Waits ops.now horizon first }
-    ensures first { result ≡ false → first < length ops.now }
-    ensures passed { result ≡ false → IfSome horizon (λ time. (at ops.now first).end < time) }
-{
-    if first >= ops.len() {
-        return true;
-    }
-    match horizon {
-        Some(time) => time <= ops[first].end,
-        None => false,
-    }
-}
-
-/// Puts a state that waits into the one set, and the states that follow another one by one move into the other set.
-fn put_next(
-    alloc: Global,
-    ops: &[Operation],
-    earliest: &EarliestStarts,
-    horizon: Option<u64>,
-    state: &State,
-    next: &mut State,
-    states: &mut States,
-    waiting: &mut States,
-) -> Result<(), AllocError>
-    requires sorted { AreSorted ops.now }
-    requires within { AreWithin ops.now }
-    requires earliest { AreEarliest ops.now earliest.now }
-    requires ready { IsReady (length ops.now) (position_of state.now) }
-    ensures ends { OnOk result ((more : List Operation) → MayFollow ops.now horizon more → (v : ℕ) → EitherEnds (ops.now ++ more) states.new waiting.new v ↔ (EitherEnds (ops.now ++ more) states.old waiting.old v ⊎ Ends (ops.now ++ more) (Some v) (position_of state.now))) }
-    ensures ready { OnOk result (AreReady ops.now states.old → AreReady ops.now states.new) }
-    ensures waiting { OnOk result (AreWaiting ops.now horizon waiting.old → AreWaiting ops.now horizon waiting.new) }
-    ensures reached { OnOk result ((from : States) → IsReached ops.now from (position_of state.now) → AreBothReached ops.now from states.old waiting.old → AreBothReached ops.now from states.new waiting.new) }
-    ensures count { OnOk result (length (positions waiting.new) ≤ length (positions waiting.old) + 1) }
-{
-    if waits(ops, horizon, state.first) {
-        return add_new(alloc, waiting, state);
-    }
-    add_moves(alloc, ops, earliest, state, next, states)
-}
 
 /// How many operations are settled at the state.
 fn settled_count(state: &State) -> usize {
@@ -155,8 +65,7 @@ fn spend<P: Progress>(budget: &mut u64, progress: &mut P)
 /// The states that wait are put into a set of their own. Nothing, where the budget was spent or more than `most` wait.
 fn next_layer<P: Progress>(
     alloc: Global,
-    ops: &[Operation],
-    earliest: &EarliestStarts,
+    problem: &Problem,
     horizon: Option<u64>,
     layer: &States,
     waiting: &mut States,
@@ -164,16 +73,15 @@ fn next_layer<P: Progress>(
     budget: &mut u64,
     progress: &mut P,
 ) -> Result<Option<States>, AllocError>
-    requires within { AreWithin ops.now }
-    requires sorted { AreSorted ops.now }
-    requires earliest { AreEarliest ops.now earliest.now }
-    requires ready { AreReady ops.now layer.now }
-    requires waiting { AreWaiting ops.now horizon waiting.now }
+    requires problem { IsProblem problem.now }
+    requires unseen { problem.now.final_word ≡ None }
+    requires ready { AreReady problem.now.ops.now layer.now }
+    requires waiting { AreWaiting problem.now.ops.now horizon waiting.now }
     requires most { length (positions waiting.now) ≤ most }
-    ensures ends { IfOk result (λ next. IfSome next (λ states. (more : List Operation) → MayFollow ops.now horizon more → (v : ℕ) → EitherEnds (ops.now ++ more) states waiting.new v ↔ EitherEnds (ops.now ++ more) layer.now waiting.old v)) }
-    ensures ready { IfOk result (λ next. IfSome next (λ states. AreReady ops.now states)) }
-    ensures waiting { IfOk result (λ next. IfSome next (λ states. AreWaiting ops.now horizon waiting.new)) }
-    ensures reached { IfOk result (λ next. IfSome next (λ states. (from : States) → AreBothReached ops.now from layer.now waiting.old → AreBothReached ops.now from states waiting.new)) }
+    ensures ends { IfOk result (λ next. IfSome next (λ states. (more : List Operation) → MayFollow problem.now.ops.now horizon more → (v : ℕ) → EitherEnds (problem.now.ops.now ++ more) states waiting.new v ↔ EitherEnds (problem.now.ops.now ++ more) layer.now waiting.old v)) }
+    ensures ready { IfOk result (λ next. IfSome next (λ states. AreReady problem.now.ops.now states)) }
+    ensures waiting { IfOk result (λ next. IfSome next (λ states. AreWaiting problem.now.ops.now horizon waiting.new)) }
+    ensures reached { IfOk result (λ next. IfSome next (λ states. (from : States) → AreBothReached problem.now.ops.now from layer.now waiting.old → AreBothReached problem.now.ops.now from states waiting.new)) }
     ensures most { IfOk result (λ next. IfSome next (λ states. length (positions waiting.new) ≤ most)) }
     ensures fewer { IfOk result (λ next. IfSome next (λ states. 0 < length (positions layer.now) → budget.new < budget.old)) }
     ensures count { IfOk result (λ next. length (positions waiting.new) + budget.new ≤ length (positions waiting.old) + budget.old) }
@@ -196,8 +104,7 @@ fn next_layer<P: Progress>(
         *budget -= progress.look(*budget);
         put_next(
             alloc,
-            ops,
-            earliest,
+            problem,
             horizon,
             &state,
             &mut next,
@@ -228,11 +135,13 @@ pub(crate) fn first_layer(alloc: Global, words: &[u64]) -> Result<States, AllocE
 }
 
 /// The states to which the states of a set lead by moves, and at which the search waits; or nothing, where the budget was spent
-/// or more than `most` of them were found. What they lead to is the same, whatever operations come later.
+/// or more than `most` of them were found. What they lead to is the same, whatever operations come later. By rules it tries of
+/// equal operations only the first, and drops states that are seen to be dead, where no operation comes later.
 pub(crate) fn advance<P: Progress>(
     alloc: Global,
     ops: &[Operation],
     horizon: Option<u64>,
+    by_rules: bool,
     most: usize,
     from: States,
     budget: &mut u64,
@@ -250,13 +159,23 @@ pub(crate) fn advance<P: Progress>(
     ensures spends { IfOk result (λ last. (budget.new ≤ budget.old) × LookedMore P.looked progress.old progress.new (budget.old - budget.new)) }
 {
     let earliest = earliest_starts(alloc, ops)?;
+    let effects = if by_rules {
+        effects_of(alloc, ops)?
+    } else {
+        Vec::new(alloc)
+    };
+    let problem = Problem {
+        ops,
+        final_word: None,
+        effects: &effects,
+        earliest: &earliest,
+    };
     let mut waiting = no_states(alloc);
     let mut layer = from;
     while count(&layer) > 0 {
         match next_layer(
             alloc,
-            ops,
-            &earliest,
+            &problem,
             horizon,
             &layer,
             &mut waiting,

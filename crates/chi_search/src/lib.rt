@@ -3,11 +3,13 @@
 
 mod absorbing;
 mod after;
+mod along;
 mod at_once;
 mod at_word;
 mod chains;
 mod choice;
 mod commuting;
+mod counting;
 mod earliest;
 mod effect;
 mod equal;
@@ -15,6 +17,7 @@ mod frontier;
 mod layer;
 mod makers;
 mod making;
+mod moving;
 mod narrow;
 mod narrowest;
 mod only_word;

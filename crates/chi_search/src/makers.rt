@@ -8,6 +8,7 @@ ghost use Rattle.chi_search.specs.Positions;
 ghost use Rattle.chi_search.specs.Positions.{position_of};
 ghost use Rattle.chi_search.specs.Within.{IsDeadWithin, IsRun};
 
+use crate::counting::is_miscounted;
 use crate::making::{Later, has_maker};
 use crate::problem::Problem;
 use crate::state::{State, is_left};
@@ -59,8 +60,8 @@ fn is_out_of_reach(
     false
 }
 
-// Whether the operation is left, and stands in every order, since its reply was seen.
-fn must_find(ops: &[Operation], state: &State, place: usize) -> bool
+/// Whether the operation is left, and stands in every order, since its reply was seen.
+pub(crate) fn must_find(ops: &[Operation], state: &State, place: usize) -> bool
     requires { place < length ops.now }
     ensures left { IsTrue result → Positions.is_left (length ops.now) (position_of state.now) place ≡ true }
     ensures answered { IsTrue result → is_answered (at ops.now place) ≡ true }
@@ -69,7 +70,7 @@ fn must_find(ops: &[Operation], state: &State, place: usize) -> bool
 }
 
 /// Whether in the bits of the mask an operation that is left must find, or the end must have, what nothing that is left can
-/// leave. So many operations from the first on are looked at, and of these the ones that start by `until`. Of those that start by
+/// leave, or a number that no sums can make. So many operations from the first on are looked at, and of these the ones that start by `until`. Of those that start by
 /// `time` a run is followed back over `depth` operations beyond the last one. So many times as many may be asked what they leave.
 pub(crate) fn lacks_maker(
     problem: &Problem,
@@ -88,6 +89,9 @@ pub(crate) fn lacks_maker(
     let effects = problem.effects;
     if effects.len() < ops.len() {
         return false;
+    }
+    if is_miscounted(problem, state, mask) {
+        return true;
     }
     let mut asked = count.saturating_mul(count);
     if let Some(seen) = problem.final_word

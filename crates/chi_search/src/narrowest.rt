@@ -41,7 +41,7 @@ pub(crate) fn narrowest_next(
         if bits < least
             && take(ops, state, place, next)?
             && !has(dead, next)
-            && !has_equal_before(ops, problem.earliest, state, place, true)
+            && !has_equal_before(ops, effects, state, place)
         {
             least = bits;
             found = Some(place);

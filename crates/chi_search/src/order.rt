@@ -35,7 +35,7 @@ pub enum Found {
 }
 
 /// How many states for each operation are looked at without the rules that take time at each.
-const PLAIN_STATES: u64 = 8;
+pub(crate) const PLAIN_STATES: u64 = 8;
 
 /// After how many states for each operation the search of a granule that is mostly written begins again.
 const SPAN_STATES: u64 = 64;

@@ -4,9 +4,8 @@ ghost use Rattle.std.specs.Prelude.{◌≡◌, ◌-◌, ◌≤◌, ◌↔◌, If
 ghost use Rattle.chi_search.specs.Positions.{Position, back_by};
 ghost use Rattle.chi_search.specs.StateSets.{Has, positions};
 
-use crate::layer::add_new;
 use crate::state::first_state;
-use crate::states::{States, count, no_states, read};
+use crate::states::{States, add_new, count, no_states, read};
 use std::alloc::{AllocError, Global};
 
 /// How many of so many operations each state of the set has passed.

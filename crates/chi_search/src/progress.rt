@@ -38,7 +38,8 @@ pub trait Progress {
     ghost looked: { Search → Self → ℕ → Type 0 };
 
     /// A state is looked at, where as many as are left may be: as how many it counts. In a search for a verdict that is one. More than
-    /// one lets a search that follows it end sooner.
+    /// one lets a search that follows it end sooner. A search breadth first that found more states than it may look at ends, and
+    /// counts as many of them as were left.
     fn look(&mut self, left: u64) -> u64
         requires { 0 < left }
         ensures some { 0 < result }

@@ -1,6 +1,6 @@
 //! A set of states of a search. Most take 24 bytes, and those whose settled operations reach further more.
 
-ghost use Rattle.std.specs.Prelude.{◌≡◌, ℕ, ◌+◌, ◌<◌, ◌⊎◌, ◌↔◌, [], IsTrue, OnOk, Some, length, slice_get};
+ghost use Rattle.std.specs.Prelude.{◌≡◌, ℕ, ◌+◌, ◌<◌, ◌≤◌, ◌⊎◌, ◌↔◌, [], IsTrue, OnOk, Some, length, slice_get};
 ghost use Rattle.chi_search.specs.Positions.{Position, position_of};
 ghost use Rattle.chi_search.specs.StateSets.{Has, position_of_narrow, positions};
 
@@ -59,6 +59,17 @@ pub(crate) fn add(alloc: Global, states: &mut States, state: &State) -> Result<(
     } else {
         add_wide(alloc, &mut states.wide, state)
     }
+}
+
+/// Adds a state to the set, where it is not there.
+pub(crate) fn add_new(alloc: Global, states: &mut States, state: &State) -> Result<(), AllocError>
+    ensures has { OnOk result ((p : Position) → Has states.new p ↔ (Has states.old p ⊎ (p ≡ position_of state.now))) }
+    ensures count { OnOk result (length (positions states.new) ≤ length (positions states.old) + 1) }
+{
+    if has(states, state) {
+        return Ok(());
+    }
+    add(alloc, states, state)
 }
 
 /// How many states are in the set.

@@ -1,7 +1,9 @@
 //! The tests, and what they share.
 
+mod along_tests;
 mod commuting_tests;
 mod comparison;
+mod counter_tests;
 mod equal_tests;
 mod found;
 mod frontier_order_tests;

@@ -19,9 +19,9 @@ loop-reply-preserved g c =
             (All-append P before (_ ∷ []) c.loop-reply.invariant.legal (All-cons P _ [] (c.in_ok-is_legal.ensures.legal v.if-branch.true) (All-nil P))))
         | else-branch v ↦ subst (λ (u : _). All P u.items) (sym v.legal-is) c.loop-reply.invariant.legal
       ];
-      looked = some_after g.P.Progress.looked c.answers_at.new.progress c.loop-reply.progress c.is_legal.new.progress c.loop-reply.invariant.looked c.in_ok-is_legal.ensures.looked;
+      looked = some_after g.P.Progress.looked c.answers_of.new.progress c.loop-reply.progress c.is_legal.new.progress c.loop-reply.invariant.looked c.in_ok-is_legal.ensures.looked;
     }
 
 pub returns-clause-looked : goal.returns-clause-looked
 returns-clause-looked g c =
-    some_after g.P.Progress.looked c.args.progress.now c.answers_at.new.progress c.loop-reply.progress c.in_ok-answers_at.ensures c.loop-reply.invariant.looked
+    some_after g.P.Progress.looked c.args.progress.now c.answers_of.new.progress c.loop-reply.progress c.in_ok-answers_of.ensures c.loop-reply.invariant.looked

@@ -63,7 +63,7 @@ loop-place-preserved c =
     late_more c.args.problem.now.ops.now c.args.problem.now.final_word c.args.dead.now (position_of c.args.state.now) (c.loop-place.place + 1) c.next-place-in-loop-place.result
     (elim c.else-branch-3.branch [
       | else-branch-3-via-then-branch-3+then-not-has-2+else-not-has_equal_before w ↦
-          equal_more c.args.problem.now.ops.now c.args.problem.now.final_word c.args.dead.now (position_of c.args.state.now) c.loop-place.place c.loop-place.invariant
+          equal_more c.args.problem.now.ops.now c.args.problem.now.final_word c.args.dead.now (position_of c.args.state.now) c.loop-place.place c.requires.problem.sorted c.loop-place.invariant
           (w.has_equal_before.ensures w.if-not-has_equal_before.false)
       | else-branch-3-via-then-branch-3+else-not-has-2 w ↦
           dead_more c.args.problem.now.ops.now c.args.problem.now.final_word c.args.dead.now (position_of c.args.state.now) (position_of c.take-in-loop-place.new.next) c.loop-place.place c.loop-place.invariant

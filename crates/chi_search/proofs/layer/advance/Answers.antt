@@ -11,8 +11,8 @@ use Rattle.chi_search.proofs.Looking.{none_more, spent_after}
 use Rattle.chi_search.proofs.Reached.{reached_first, reached_none}
 use Rattle.chi_search.proofs.layer.advance.Goals as goal
 
-pub loop-alloc-init : goal.loop-alloc-init
-loop-alloc-init g c =
+pub loop-problem-init : goal.loop-problem-init
+loop-problem-init g c =
     let none = ap length c.no_states-waiting.ensures in
     record {
       ends = λ more follow v. first_either (c.args.ops.now ++ more) c.args.from c.no_states-waiting.result v none;
@@ -24,37 +24,37 @@ loop-alloc-init g c =
       looked = none_more g.P.Progress.looked c.args.progress.now (c.args.budget.now - c.args.budget.now) (omega arith);
     }
 
-pub loop-alloc-preserved : goal.loop-alloc-preserved
-loop-alloc-preserved g c =
+pub loop-problem-preserved : goal.loop-problem-preserved
+loop-problem-preserved g c =
     let ops = c.args.ops.now in
-    let layer = c.loop-alloc.layer in
-    let old = c.loop-alloc.waiting in
+    let layer = c.loop-problem.layer in
+    let old = c.loop-problem.waiting in
     let new = c.next_layer.new.waiting in
     let ends = subst (λ (o : Option States). IfSome o (λ next. (more : List Operation) → MayFollow ops c.args.horizon more → (v : ℕ) → EitherEnds (ops ++ more) next new v ↔ EitherEnds (ops ++ more) layer old v))
     c.in-Some.is c.in_ok-next.ensures.ends in
-    let under : c.loop-alloc.budget ≤ c.args.budget.now = omega (arith, c.loop-alloc.invariant.count) in
+    let under : c.loop-problem.budget ≤ c.args.budget.now = omega (arith, c.loop-problem.invariant.count) in
     let count = c.in_ok-next.ensures.count in
     let spends = c.in_ok-next.ensures.spends in
     record {
       ends = λ more follow v.
           chained (EitherEnds (ops ++ more) c.in-Some.next new v) (EitherEnds (ops ++ more) layer old v) (SomeEnds (ops ++ more) c.args.from v) (ends more follow v)
-          (c.loop-alloc.invariant.ends more follow v);
+          (c.loop-problem.invariant.ends more follow v);
       ready = subst (λ (o : Option States). IfSome o (AreReady ops)) c.in-Some.is c.in_ok-next.ensures.ready;
       waiting = subst (λ (o : Option States). IfSome o (λ next. AreWaiting ops c.args.horizon new)) c.in-Some.is c.in_ok-next.ensures.waiting;
       reached = subst (λ (o : Option States). IfSome o (λ next. (from : States) → AreBothReached ops from layer old → AreBothReached ops from next new))
-          c.in-Some.is c.in_ok-next.ensures.reached c.args.from c.loop-alloc.invariant.reached;
+          c.in-Some.is c.in_ok-next.ensures.reached c.args.from c.loop-problem.invariant.reached;
       most = subst (λ (o : Option States). IfSome o (λ next. length (positions new) ≤ c.args.most)) c.in-Some.is c.in_ok-next.ensures.most;
-      count = omega (arith, count, c.loop-alloc.invariant.count);
-      looked = spent_after g.P.Progress.looked c.args.progress.now c.loop-alloc.progress c.next_layer.new.progress c.args.budget.now c.loop-alloc.budget c.next_layer.new.budget
-          under spends.0 c.loop-alloc.invariant.looked spends.1;
+      count = omega (arith, count, c.loop-problem.invariant.count);
+      looked = spent_after g.P.Progress.looked c.args.progress.now c.loop-problem.progress c.next_layer.new.progress c.args.budget.now c.loop-problem.budget c.next_layer.new.budget
+          under spends.0 c.loop-problem.invariant.looked spends.1;
     }
 
 pub returns-clause-ends : goal.returns-clause-ends
 returns-clause-ends g c more follow v =
-    last_either (c.args.ops.now ++ more) c.args.from c.loop-alloc.layer c.loop-alloc.waiting v (omega arith) (c.loop-alloc.invariant.ends more follow v)
+    last_either (c.args.ops.now ++ more) c.args.from c.loop-problem.layer c.loop-problem.waiting v (omega arith) (c.loop-problem.invariant.ends more follow v)
 
 pub returns-clause-ready : goal.returns-clause-ready
-returns-clause-ready g c p has = (c.loop-alloc.invariant.waiting p has).0
+returns-clause-ready g c p has = (c.loop-problem.invariant.waiting p has).0
 
 pub returns-clause-reached : goal.returns-clause-reached
-returns-clause-reached g c = c.loop-alloc.invariant.reached.1
+returns-clause-reached g c = c.loop-problem.invariant.reached.1

@@ -7,8 +7,8 @@ use Rattle.chi_search.specs.Paths.{AreBothReached}
 use Rattle.chi_search.specs.StateSets.{positions}
 use Rattle.chi_search.proofs.layer.advance.Given as goal
 
-abbrev pub invariant-loop-alloc : goal.invariant-loop-alloc
-invariant-loop-alloc g l = record {
+abbrev pub invariant-loop-problem : goal.invariant-loop-problem
+invariant-loop-problem g l = record {
   ends : (more : List Operation) → MayFollow l.ops l.horizon more → (v : ℕ) → EitherEnds (l.ops ++ more) l.layer l.waiting v ↔ SomeEnds (l.ops ++ more) l.fn.from v;
   ready : AreReady l.ops l.layer;
   waiting : AreWaiting l.ops l.horizon l.waiting;
@@ -18,5 +18,5 @@ invariant-loop-alloc g l = record {
   looked : LookedMore g.P.Progress.looked l.initial.progress l.progress (l.initial.budget - l.budget);
 }
 
-abbrev pub decreases-loop-alloc : goal.decreases-loop-alloc
-decreases-loop-alloc g l = l.budget
+abbrev pub decreases-loop-problem : goal.decreases-loop-problem
+decreases-loop-problem g l = l.budget

@@ -12,7 +12,7 @@ use Rattle.chi_search.proofs.layer.next_layer.Goals as goal
 
 pub loop-place-preserved : goal.loop-place-preserved
 loop-place-preserved g c =
-    let ops = c.args.ops.now in
+    let ops = c.args.problem.now.ops.now in
     let p = position_of c.read.new.to in
     let so = c.loop-place.invariant in
     let some : 0 < c.loop-place.budget = omega arith in
@@ -32,14 +32,14 @@ loop-place-preserved g c =
 
 pub returns-clause-ends : goal.returns-clause-ends
 returns-clause-ends g c more follow v =
-    let ops = c.args.ops.now ++ more in
+    let ops = c.args.problem.now.ops.now ++ more in
     some_end_beside (Ends ops (Some v)) (EitherEnds ops c.loop-place.states c.loop-place.waiting v) (SomeEnds ops c.args.waiting.now v) (positions c.args.layer.now) c.loop-place.place (omega arith)
     (c.loop-place.invariant.ends more follow v)
 
 -- a state at which more are settled stays in the set
 pub loop-place-preserved-then-settled_count-fewest : goal.loop-place-preserved-then-settled_count-fewest
 loop-place-preserved-then-settled_count-fewest g c =
-    let ops = c.args.ops.now in
+    let ops = c.args.problem.now.ops.now in
     let old = c.loop-place.states in
     let new = c.add_new.new.states in
     let p = position_of c.read.new.to in
@@ -64,4 +64,4 @@ loop-place-preserved-then-settled_count-fewest g c =
 
 pub put_next-requires-clause-ready : goal.put_next-requires-clause-ready
 put_next-requires-clause-ready g c =
-    ready_at c.args.ops.now c.args.layer.now c.loop-place.place (position_of c.read.new.to) c.in_ok-read.ensures c.requires.ready
+    ready_at c.args.problem.now.ops.now c.args.layer.now c.loop-place.place (position_of c.read.new.to) c.in_ok-read.ensures c.requires.ready

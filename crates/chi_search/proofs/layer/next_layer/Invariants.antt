@@ -12,11 +12,11 @@ use Rattle.chi_search.proofs.layer.next_layer.Given as goal
 
 abbrev pub invariant-loop-place : goal.invariant-loop-place
 invariant-loop-place g l = record {
-  ends : (more : List Operation) → MayFollow l.ops l.horizon more → (v : ℕ)
-      → EitherEnds (l.ops ++ more) l.states l.waiting v ↔ (SomeOf (Ends (l.ops ++ more) (Some v)) (take l.place (positions l.layer)) ⊎ SomeEnds (l.ops ++ more) l.initial.waiting v);
-  ready : AreReady l.ops l.states;
-  waiting : AreWaiting l.ops l.horizon l.waiting;
-  reached : (from : States) → AreBothReached l.ops from l.layer l.initial.waiting → AreBothReached l.ops from l.states l.waiting;
+  ends : (more : List Operation) → MayFollow l.problem.ops.now l.horizon more → (v : ℕ)
+      → EitherEnds (l.problem.ops.now ++ more) l.states l.waiting v ↔ (SomeOf (Ends (l.problem.ops.now ++ more) (Some v)) (take l.place (positions l.layer)) ⊎ SomeEnds (l.problem.ops.now ++ more) l.initial.waiting v);
+  ready : AreReady l.problem.ops.now l.states;
+  waiting : AreWaiting l.problem.ops.now l.horizon l.waiting;
+  reached : (from : States) → AreBothReached l.problem.ops.now from l.layer l.initial.waiting → AreBothReached l.problem.ops.now from l.states l.waiting;
   most : length (positions l.waiting) ≤ l.most;
   count : length (positions l.waiting) + l.budget ≤ length (positions l.initial.waiting) + l.initial.budget;
   fewer : l.least < l.place → l.budget < l.initial.budget;

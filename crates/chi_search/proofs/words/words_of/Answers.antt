@@ -1,33 +1,20 @@
--- from the first states to the words of the last, where no operation comes later
-use Rattle.std.proofs.Common.{ℕ, ◌↔◌, List, [], ◌++◌, IfSome, None, Option, append-nil, subst, arith, inl, inr}
-use Rattle.chi_trace.specs.declared.operation.Operation.{Operation}
-use Rattle.chi_search.specs.declared.states.States.{States}
-use Rattle.chi_search.specs.Layers.{MayFollow, SomeEnds, SomeLeads, Waits}
-use Rattle.chi_search.specs.Positions.{Position}
-use Rattle.chi_search.specs.StateSets.{Has}
-use Rattle.chi_search.proofs.FirstAndLast.{chained, first_leads, first_ready, last_leads}
-use Rattle.chi_search.proofs.Telling.{none_follow}
+-- from the first states
+use Rattle.std.proofs.lemmas.Result.{IfOk-weaker}
+use Rattle.std.proofs.Common.{ℕ, ◌↔◌, List}
+use Rattle.std.specs.List.{Contains}
+use Rattle.chi_search.specs.Found.{IfWords}
+use Rattle.chi_search.specs.Layers.{SomeEnds, SomeLeads}
+use Rattle.chi_search.proofs.FirstAndLast.{first_leads, first_ready, words_lead}
 use Rattle.chi_search.proofs.words.words_of.Goals as goal
 
-pub advance-requires-clause-ready : goal.advance-requires-clause-ready
-advance-requires-clause-ready g c = first_ready c.args.ops.now c.args.words.now c.in_ok-first.first c.in_ok-first.ensures
+pub words_from-requires-clause-ready : goal.words_from-requires-clause-ready
+words_from-requires-clause-ready g c = first_ready c.args.ops.now c.args.words.now c.in_ok-first.first c.in_ok-first.ensures
 
-pub returns-in_ok-each-in-Some-clause-words : goal.returns-in_ok-each-in-Some-clause-words
-returns-in_ok-each-in-Some-clause-words g c =
+pub returns-clause-words : goal.returns-clause-words
+returns-clause-words g c =
     let ops = c.args.ops.now in
     let words = c.args.words.now in
-    let from = c.in_ok-first.first in
-    let last = c.in-Some.last in
-    let ends = subst (λ (o : Option States). IfSome o (λ states. (more : List Operation) → MayFollow ops None more → (v : ℕ) → SomeEnds (ops ++ more) states v ↔ SomeEnds (ops ++ more) from v))
-    c.in-Some.is c.in_ok-last.ensures.ends in
-    let waiting = subst (λ (o : Option States). IfSome o (λ states. (p : Position) → Has states p → Waits ops None p.first)) c.in-Some.is c.in_ok-last.ensures.waiting in
-    last_leads ops (λ v. SomeLeads ops words v) c.in_ok-each-in-Some.each.items last waiting c.in_ok-each-in-Some.ensures.words
-    (λ v. chained (SomeEnds ops last v) (SomeEnds ops from v) (SomeLeads ops words v)
-    (subst (λ (all : List Operation). SomeEnds all last v ↔ SomeEnds all from v) (append-nil ops) (ends [] (none_follow ops c.requires.sorted) v))
-    (first_leads ops words from c.in_ok-first.ensures v))
-
-pub returns-in-None-clause-unknown : goal.returns-in-None-clause-unknown
-returns-in-None-clause-unknown g c = elim (c.in_ok-last.ensures.spent c.in-None.is) [
-  | inl spent ↦ spent
-  | inr more ↦ absurd (omega (arith, more))
-]
+    let first = c.in_ok-first.first in
+    IfOk-weaker c.words_from.result (λ found. IfWords found (λ (each : List ℕ). (v : ℕ) → Contains each v ↔ SomeEnds ops first v))
+    (λ found. IfWords found (λ (each : List ℕ). (v : ℕ) → Contains each v ↔ SomeLeads ops words v))
+    (words_lead (SomeEnds ops first) (SomeLeads ops words) (first_leads ops words first c.in_ok-first.ensures)) c.words_from.ensures.words

@@ -1,38 +1,24 @@
--- the words of the last states, where nothing more is told
-use Rattle.std.proofs.Common.{ℕ, ◌↔◌, List, ◌++◌, IfSome, None, Option, refl, sym, subst, arith, inl, inr}
+-- the words to which the search goes on, in the terms of what was told
+use Rattle.std.proofs.Common.{ℕ, ◌↔◌, List, IfOk, sym, subst}
+use Rattle.std.specs.List.{Contains}
+use Rattle.std.proofs.lemmas.Result.{IfOk-weaker}
 use Rattle.chi_trace.specs.declared.operation.Operation.{Operation}
-use Rattle.chi_search.specs.declared.states.States.{States}
-use Rattle.chi_search.specs.Frontiers.{Follows, FrontierValue}
-use Rattle.chi_search.specs.Layers.{AreReady, MayFollow, SomeEnds, SomeLeads, Waits}
-use Rattle.chi_search.specs.Positions.{Position}
-use Rattle.chi_search.specs.StateSets.{Has, positions}
-use Rattle.chi_search.proofs.FirstAndLast.{last_leads}
-use Rattle.chi_search.proofs.MovedBack.{follows_all, ready_copied}
+use Rattle.chi_search.specs.Found.{IfWords}
+use Rattle.chi_search.specs.Frontiers.{FrontierValue}
+use Rattle.chi_search.specs.Layers.{AreReady, SomeEnds}
+use Rattle.chi_search.specs.StateSets.{positions}
+use Rattle.chi_search.proofs.Judging.{AreLed, AreTold, words_told}
 use Rattle.chi_search.proofs.frontier.Frontier.words.Goals as goal
 
-pub advance-requires-clause-ready : goal.advance-requires-clause-ready
-advance-requires-clause-ready g c =
-    subst (λ (ops : List Operation). AreReady ops c.in_ok-from.from) (sym c.deref.ensures.value)
-    (ready_copied c.self.inside.operations.items c.self.inside.states c.in_ok-from.from c.in_ok-from.ensures.has c.self.invariant.ready)
+pub words_from-requires-clause-ready : goal.words_from-requires-clause-ready
+words_from-requires-clause-ready g c =
+    subst (λ (ops : List Operation). AreReady ops c.self.inside.states) (sym c.deref.ensures.value) c.self.invariant.ready
 
-pub returns-in_ok-each-in-Some-clause-words : goal.returns-in_ok-each-in-Some-clause-words
-returns-in_ok-each-in-Some-clause-words g c words told follows =
+pub returns-clause-words : goal.returns-clause-words
+returns-clause-words g c =
     let s = c.self.inside in
-    let ops = s.operations.items in
-    let old : FrontierValue = record { positions = positions s.states; operations = ops; horizon = s.horizon; latest = s.latest } in
-    let from = c.in_ok-from.from in
-    let last = c.in-Some.last in
-    let problem = c.deref.ensures.value in
-    let ends = subst (λ (all : List Operation). (more : List Operation) → MayFollow all None more → (v : ℕ) → SomeEnds (all ++ more) last v ↔ SomeEnds (all ++ more) from v) problem
-    (subst (λ (o : Option States). IfSome o (λ states. (more : List Operation) → MayFollow c.deref.result.now None more → (v : ℕ)
-    → SomeEnds (c.deref.result.now ++ more) states v ↔ SomeEnds (c.deref.result.now ++ more) from v)) c.in-Some.is c.in_ok-last.ensures.ends) in
-    let waiting = subst (λ (all : List Operation). (p : Position) → Has last p → Waits all None p.first) problem
-    (subst (λ (o : Option States). IfSome o (λ states. (p : Position) → Has states p → Waits c.deref.result.now None p.first)) c.in-Some.is c.in_ok-last.ensures.waiting) in
-    last_leads ops (λ v. SomeLeads told words v) c.in_ok-each-in-Some.each.items last waiting c.in_ok-each-in-Some.ensures.words
-    (follows_all words told old s.states from last c.self.invariant refl c.in_ok-from.ensures.has ends (subst (Follows words told) (sym c.self.view_is) follows))
-
-pub returns-in-None-clause-unknown : goal.returns-in-None-clause-unknown
-returns-in-None-clause-unknown g c = elim (c.in_ok-last.ensures.spent c.in-None.is) [
-  | inl spent ↦ spent
-  | inr more ↦ absurd (omega (arith, more))
-]
+    let f : FrontierValue = record { positions = positions s.states; operations = s.operations.items; horizon = s.horizon; latest = s.latest } in
+    let all = subst (λ (ops : List Operation). IfOk c.words_from.result (λ found. IfWords found (λ each. (v : ℕ) → Contains each v ↔ SomeEnds ops s.states v)))
+    c.deref.ensures.value c.words_from.ensures.words in
+    subst (λ (g : FrontierValue). IfOk c.words_from.result (λ found. IfWords found (AreTold g))) c.self.view_is
+    (IfOk-weaker c.words_from.result (λ found. IfWords found (AreLed f)) (λ found. IfWords found (AreTold f)) (words_told f) all)

@@ -1,6 +1,6 @@
 -- the states of one search more
 use Rattle.chi_search.proofs.Looking.{some_after}
-use Rattle.chi_judge.proofs.legal.answers_at.Goals as goal
+use Rattle.chi_judge.proofs.answers.answers_at.Goals as goal
 
 pub loop-time-preserved : goal.loop-time-preserved
 loop-time-preserved g c =
