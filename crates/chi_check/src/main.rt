@@ -7,6 +7,7 @@ mod check;
 mod command;
 mod cover;
 mod fault;
+mod following;
 mod inputs;
 mod machine;
 mod meter;

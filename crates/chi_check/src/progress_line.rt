@@ -5,6 +5,7 @@ ghost use Rattle.std.specs.Io.KnownBytes.{Keeps};
 ghost use Rattle.chi_search.specs.Looks.{IsCutShort, LookedMore, Search, after_verdict, for_verdict};
 ghost use Rattle.chi_check.specs.Counted.{IsCounted, IsCutAt, IsKnown};
 
+use crate::following::{late, states_after};
 use chi_search::Progress;
 use chi_watch::Counts;
 use chi_watch_text::WatchProgress;
@@ -16,37 +17,23 @@ const FIRST: u64 = 1000;
 
 const NEXT: u64 = 100;
 
-// How many states are looked at, or events are told, between two looks at the clock.
+// After how many seconds the searches that follow a verdict are ended, however few states they looked at.
+const LONGEST: u64 = 20;
+
+// How many states are looked at, or events are told, between two looks at the clock; and how many that may follow a verdict.
 const STATES: u64 = 4096;
 
+const FOLLOWING: u64 = 64;
+
 const EVENTS: u64 = 1024;
-
-// How many times the states of a verdict may be looked at after it, but no more than so many; and beside them so many for each
-// operation, and so many in all.
-const TIMES: u64 = 16;
-
-const MOST: u64 = 2_000_000;
-
-const EACH: u64 = 64;
-
-const LEAST: u64 = 100_000;
-
-// Where many operations were pending at once a state takes longer: fewer may follow, by as many times as these go into their number.
-const FEW_PENDING: u64 = 48;
-
-// From then on a state counts as a quarter of what a search may still look at, and once that is no more than this as one of so
-// many parts of it.
-const FEW_LEFT: u64 = 4096;
-
-const PARTS: u64 = 64;
 
 /// A line on a terminal that says how many states a search has looked at, or, once events are told, how many operations have
 /// ended, of how many granules, how many requests are outstanding, and the time of the last event. It is first written where a
 /// second has gone by since the program began, and then written over ten times a second. Where `to` is no terminal nothing is
 /// written. Its own faults are ignored.
 ///
-/// It also ends what follows a verdict: once as many states were looked at as that may take, each further one counts as many, so
-/// that each search soon has spent its budget.
+/// It also ends what follows a verdict: once as many states were looked at as that may take, or 20 seconds went by, each further one
+/// counts as many, so that each search soon has spent its budget.
 #[derive(Drop)]
 pub struct ProgressLine<'a, C, W> {
     clock: &'a C,
@@ -59,33 +46,8 @@ pub struct ProgressLine<'a, C, W> {
     reached: Option<(Counts, u64)>,
     begun: u64,
     may_follow: Option<u64>,
+    found: Option<Instant>,
     cut_short: Option<u64>,
-}
-
-// How many states may be looked at after a verdict of so many operations, which took so many states, where so many were pending at
-// once.
-fn states_after(states: u64, operations: usize, pending: usize) -> u64
-    ensures { result ≡ min (min (states * 16) 2000000 + operations * 64 + 100000) (2 ^ 64 - 1) / max 1 (pending / 48) }
-{
-    let of_states = states.saturating_mul(TIMES).min(MOST);
-    let of_operations = (operations as u64).saturating_mul(EACH);
-    let all = of_states
-        .saturating_add(of_operations)
-        .saturating_add(LEAST);
-    all / (pending as u64 / FEW_PENDING).max(1)
-}
-
-// As how many a state counts late, of as many as are left.
-fn late(left: u64) -> u64
-    requires { 0 < left }
-    ensures some { 0 < result }
-    ensures within { result ≤ left }
-{
-    if left > FEW_LEFT {
-        left / 4
-    } else {
-        (left / PARTS).max(1)
-    }
 }
 
 impl<'a, C: Clock, W: Write + IsTerminal> ProgressLine<'a, C, W> {
@@ -114,6 +76,7 @@ impl<'a, C: Clock, W: Write + IsTerminal> ProgressLine<'a, C, W> {
             reached: None,
             begun: 0,
             may_follow: None,
+            found: None,
             cut_short: None,
         }
     }
@@ -129,6 +92,28 @@ impl<'a, C: Clock, W: Write> ProgressLine<'a, C, W> {
             None => now.duration_since(began) >= Duration::from_millis(FIRST),
         };
         if is_due { Some(now) } else { None }
+    }
+
+    // Whether the last verdict was found so long ago that the searches that follow it are ended.
+    fn is_late(&self) -> bool {
+        match (self.found, Instant::now(self.clock)) {
+            (Some(found), Ok(now)) => now.duration_since(found) >= Duration::from_secs(LONGEST),
+            _ => false,
+        }
+    }
+
+    // Lets no more states follow a verdict that was found so long ago.
+    fn end_if_late(&mut self)
+        ensures none { self.old.may_follow ≡ None → self.new.may_follow ≡ None }
+        ensures states { self.new.states ≡ self.old.states }
+        ensures begun { self.new.begun ≡ self.old.begun }
+        ensures cut { self.new.cut_short ≡ self.old.cut_short }
+        ensures began { self.new.began ≡ self.old.began }
+        ensures unwritten { Keeps (W.contents self.old.to) (W.contents self.new.to) }
+    {
+        if self.may_follow.is_some() && self.is_late() {
+            self.may_follow = Some(self.states.saturating_sub(self.begun));
+        }
     }
 
     // As how many the next state counts, of as many as are left.
@@ -211,6 +196,9 @@ impl<'a, C: Clock, W: Write> Progress for ProgressLine<'a, C, W> {
         let count = self.count_next(left);
         self.states = self.states.saturating_add(1);
         self.looks = self.looks.wrapping_add(1);
+        if self.looks % FOLLOWING == 0 {
+            self.end_if_late();
+        }
         if self.began.is_some() && self.looks % STATES == 0 {
             self.show_if_due();
         }
@@ -234,6 +222,7 @@ impl<'a, C: Clock, W: Write> Progress for ProgressLine<'a, C, W> {
         let taken = self.states.saturating_sub(self.begun);
         self.begun = self.states;
         self.may_follow = Some(states_after(taken, operations, pending));
+        self.found = Instant::now(self.clock).ok();
         self.cut_short = None;
     }
 
