@@ -2,7 +2,6 @@
 
 import concurrent.futures
 import os
-import re
 import shutil
 import subprocess
 import sys
@@ -28,10 +27,10 @@ def below(crate, uses):
 
 
 def longest(libraries, uses):
-    """Returns the libraries, those first for which the longest chain of others waits, by the seconds that docs/GATE.md tells of
-    each proof; one of which it tells nothing counts as a minute."""
-    with open("docs/GATE.md", encoding="utf-8") as file:
-        took = {it: int(seconds) for it, seconds in re.findall(r"\| `(\w+)` \| (\d+) \|", file.read())}
+    """Returns the libraries, those first for which the longest chain of others waits, by the seconds that .ci/proofs.txt tells
+    of each proof; one of which it tells nothing counts as a minute."""
+    with open(".ci/proofs.txt", encoding="utf-8") as file:
+        took = {it: int(seconds) for it, seconds in map(str.split, file)}
     ways = {}
     for it in sorted(libraries, key=lambda it: -len(below(it, uses))):
         ways[it] = took.get(it, 60) + max((ways[other] for other in ways if it in uses[other]), default=0)
