@@ -1,9 +1,10 @@
-// The page of a coverage: how many bins are covered, a table of each group, and the bins that are missing.
+// The page of a coverage: how many bins are covered, a table of each group, the bins that are missing, and the rules of the plan.
 "use strict";
 
 // The count that stands for itself and all that are greater.
 const MOST = "18446744073709551615";
 const LEGEND = "A number says how many operations were of a bin.";
+const EXCLUDED = "A dim number with a dashed border is excluded: its bin need not be covered.";
 
 // What stands above the rows and the columns of a group's table.
 const TABLES = {
@@ -13,6 +14,7 @@ const TABLES = {
   "line sequences": { heads: ["later transaction"], over: "earlier transaction of another granule of the line" },
 };
 const PLAIN = { heads: ["bin"], over: "" };
+const RULES = { heads: ["rule", "pattern", "bins", "reason"], over: "", columns: [] };
 
 // The names of bins of two transactions, of the later one and then of the earlier one.
 const PAIRS = {
@@ -21,10 +23,16 @@ const PAIRS = {
   "line sequences": /^(.*) after (.*) on the line$/,
 };
 
-// A group of the data, in which a bin stands as an array, at the goal of the data. A count and the goal are texts, since no number
-// holds the greatest exactly.
+// A bin of the data, which stands there as an array. Its goal is that of all where it has none of its own, and null where it is
+// excluded. A count and a goal are texts, since no number holds the greatest exactly.
+function binOf([name, count, own], goal) {
+  const excluded = own === null;
+  return { name, count, excluded, missing: !excluded && BigInt(count) < BigInt(own === undefined ? goal : own) };
+}
+
+// A group of the data, at the goal of all.
 function groupOf({ name, bins }, goal) {
-  return { name, bins: bins.map(([bin, count]) => ({ name: bin, count, missing: BigInt(count) < BigInt(goal) })) };
+  return { name, bins: bins.map((bin) => binOf(bin, goal)) };
 }
 
 function isMissing(bin) {
@@ -35,21 +43,37 @@ function missingOf(bins) {
   return bins.filter(isMissing);
 }
 
-// A group's name, and how many of its bins are covered.
+function excludedOf(bins) {
+  return bins.filter((bin) => bin.excluded);
+}
+
+// A group's name, and how many are covered of its bins that are not excluded.
 function headingOf({ name, bins }) {
-  return `${name}: ${bins.length - missingOf(bins).length} of ${bins.length}`;
+  const wanted = bins.length - excludedOf(bins).length;
+  return `${name}: ${wanted - missingOf(bins).length} of ${wanted}`;
 }
 
-// What is said of all bins.
-function summaryOf({ covered, bins, percent, goal }, missing) {
+function areOf(number, what) {
+  return `${number} ${number === 1 ? "is" : "are"} ${what}`;
+}
+
+// What is said of all bins, where so many are missing and so many excluded.
+function summaryOf({ covered, bins, percent, goal }, missing, excluded) {
   const least = goal === "1" ? "" : `, each at least ${goal}`;
-  return `${covered} of ${bins} bins are covered (${percent}%)${least}, ${missing} ${missing === 1 ? "is" : "are"} missing.`;
+  const beside = excluded === 0 ? "" : `, ${areOf(excluded, "excluded")}`;
+  return `${covered} of ${bins} bins are covered (${percent}%)${least}, ${areOf(missing, "missing")}${beside}.`;
 }
 
-// What is said of the numbers.
-function legendOf({ goal }) {
-  if (goal === "1") return `${LEGEND} A bold 0 with a thick border is missing: no operation was of that bin.`;
-  return `${LEGEND} A bold number with a thick border is missing: fewer than ${goal} operations were of that bin.`;
+// What is said of a number that is missing.
+function missingLegend({ goal, plan }) {
+  if (plan.some((rule) => rule.goal !== null)) return "A bold number with a thick border is missing: fewer operations were of that bin than it has to count.";
+  if (goal === "1") return "A bold 0 with a thick border is missing: no operation was of that bin.";
+  return `A bold number with a thick border is missing: fewer than ${goal} operations were of that bin.`;
+}
+
+// What is said of the numbers, where so many bins are excluded.
+function legendOf(data, excluded) {
+  return `${LEGEND} ${missingLegend(data)}${excluded === 0 ? "" : ` ${EXCLUDED}`}`;
 }
 
 function textOf(count) {
@@ -88,6 +112,23 @@ function isWhole(row) {
   return !row.cells.some((cell) => isMissing(cell.bin));
 }
 
+// The class of a bin's cell.
+function classOf(bin) {
+  if (bin.excluded) return "excluded";
+  return isMissing(bin) ? "missing" : "";
+}
+
+// The title of a bin's cell: its name, and what is to be known of it.
+function titleOf(bin) {
+  if (bin.excluded) return `${bin.name}: excluded${bin.count === "0" ? "" : " but met"}`;
+  return isMissing(bin) ? `${bin.name}: missing` : bin.name;
+}
+
+// What is said of a rule of the plan: what it does, its pattern, how many bins fit, and why.
+function ruleOf({ bins, count, goal, why }) {
+  return [goal === null ? "excluded" : `at least ${goal}`, bins, count, why];
+}
+
 // An element with a class, with text in it where there is some. Text is never read as markup.
 function element(name, className, text) {
   const made = document.createElement(name);
@@ -105,9 +146,9 @@ function makeHead(scope, text, width) {
 }
 
 function makeCell({ bin, width }) {
-  const cell = element("td", isMissing(bin) ? "missing" : "", textOf(bin.count));
+  const cell = element("td", classOf(bin), textOf(bin.count));
   cell.colSpan = width;
-  cell.title = isMissing(bin) ? `${bin.name}: missing` : bin.name;
+  cell.title = titleOf(bin);
   return cell;
 }
 
@@ -134,6 +175,19 @@ function makeTable(table) {
   }
   if (table.rows.every(isWhole)) made.className = "whole";
   made.append(makeHeads(table), body);
+  return made;
+}
+
+// The rules of the plan, in their order. Where two fit a bin, the later one decides.
+function makePlan(plan) {
+  const made = element("table", "plan");
+  const body = element("tbody");
+  for (const rule of plan) {
+    const line = element("tr");
+    line.append(...ruleOf(rule).map((text) => element("td", "", text)));
+    body.append(line);
+  }
+  made.append(makeHeads(RULES), body);
   return made;
 }
 
@@ -186,13 +240,15 @@ function makeChoice(content) {
 function start() {
   const data = JSON.parse(document.getElementById("coverage").textContent);
   const groups = data.groups.map((group) => groupOf(group, data.goal));
-  const count = missingOf(groups.flatMap((group) => group.bins)).length;
+  const bins = groups.flatMap((group) => group.bins);
+  const [missing, excluded] = [missingOf(bins).length, excludedOf(bins).length];
   const sections = groups.map((group, number) => makeSection(`group-${number}`, headingOf(group), makeTable(tableOf(group))));
-  sections.push(makeSection("missing", `missing: ${count}`, ...makeMissing(groups)));
+  sections.push(makeSection("missing", `missing: ${missing}`, ...makeMissing(groups)));
+  if (data.plan.length > 0) sections.push(makeSection("plan", `plan: ${data.plan.length}`, makePlan(data.plan)));
   const content = element("main");
   content.append(...sections);
-  document.body.append(element("h1", "", "chicheck cover"), element("p", "summary", summaryOf(data, count)), makeLinks(sections), element("p", "legend", legendOf(data)), makeChoice(content), content);
+  document.body.append(element("h1", "", "chicheck cover"), element("p", "summary", summaryOf(data, missing, excluded)), makeLinks(sections), element("p", "legend", legendOf(data, excluded)), makeChoice(content), content);
 }
 
-if (typeof module !== "undefined") module.exports = { groupOf, headingOf, isMissing, isWhole, legendOf, missingOf, placeOf, summaryOf, tableOf, textOf };
+if (typeof module !== "undefined") module.exports = { classOf, excludedOf, groupOf, headingOf, isMissing, isWhole, legendOf, missingOf, placeOf, ruleOf, summaryOf, tableOf, textOf, titleOf };
 else start();

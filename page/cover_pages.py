@@ -1,4 +1,4 @@
-"""Pages of coverages, opened in a browser: their numbers, what is missing, the check box, and light and dark."""
+"""Pages of coverages, opened in a browser: their numbers, what is missing, the check box, plans, and light and dark."""
 
 import cover_sample
 from pages import same
@@ -8,6 +8,7 @@ MISSING = "[...document.querySelectorAll('td.missing')].length"
 SHOWN = "[...document.querySelectorAll('tbody tr')].filter((row) => row.offsetParent !== null).map((row) => [...row.querySelectorAll('th')].map((head) => head.textContent).join(' '))"
 COLOURS = "(({color, backgroundColor}) => [color, backgroundColor])(getComputedStyle(document.body))"
 STYLE = "((it) => [it.outlineStyle, it.outlineWidth, Number(it.fontWeight) > 400])(getComputedStyle(document.querySelector('td.missing')))"
+EXCLUDED = "[...document.querySelectorAll('td.excluded')].map((cell) => [cell.title, cell.textContent])"
 
 
 def try_small(pages):
@@ -24,6 +25,7 @@ def try_small(pages):
     same(tables[5][1], ["WriteNoSnpPtl", "0", "0", "0", "1", "0", "0"], "a write while an AtomicLoad was open")
     same(tables[6], [["an overlap with an earlier operation of the same requester", "0"], ["an overlap with an earlier operation of another requester", "1"]], "requesters")
     same(browser.value(MISSING), 1401, "cells that are missing")
+    same(browser.value(EXCLUDED), [], "cells that are excluded")
     same(browser.value(STYLE), ["solid", "2px", True], "how a missing cell is marked, beside its colour")
     missing = browser.value("[...document.querySelectorAll('#missing li')].map((it) => it.textContent)")
     same((len(missing), missing[0], missing[-1]), (1401, "ReadNoSnp, little-endian, 1 byte, lane 0", "AtomicCompare after AtomicCompare on the line"), "missing bins")
@@ -68,6 +70,29 @@ def try_goal(pages):
     same(browser.value("[...document.querySelectorAll('#missing li')].map((it) => it.textContent)"), ["open 2", "AtomicCompare while ReadNoSnp was open"], "missing bins")
 
 
+def try_plan(pages):
+    """By a plan some bins are excluded, others have goals of their own, and its rules are listed."""
+    browser = pages.browser
+    pages.open(cover_sample.page(cover_sample.planned()), "a coverage by a plan")
+    same(pages.text(".summary"), "1380 of 1382 bins are covered (99%), 2 are missing, 28 are excluded.", "summary")
+    same(pages.text(".legend"), "A number says how many operations were of a bin. A bold number with a thick border is missing: fewer operations were of that bin than it has to count. "
+         "A dim number with a dashed border is excluded: its bin need not be covered.", "legend")
+    same(browser.value("[...document.querySelectorAll('h2')].map((it) => it.textContent)"),
+         ["operations: 1171 of 1172", "compares: 16 of 16", "writes: 11 of 11", "results: 68 of 68", "open at once: 5 of 5", "overlaps: 35 of 36", "requesters: 2 of 2", "sequences: 36 of 36",
+          "line sequences: 36 of 36", "missing: 2", "plan: 3"], "headings")
+    same(browser.value("[...document.querySelectorAll('td.missing')].map((cell) => [cell.title, cell.textContent])"),
+         [["ReadNoSnp, big-endian, 8 bytes, lane 8: missing", "0"], ["AtomicSwap while AtomicStore was open: missing", "2"]], "cells that are missing")
+    excluded = browser.value(EXCLUDED)
+    same((len(excluded), excluded[0], excluded[3]), (28, ["ReadNoSnp, big-endian, 1 byte, lane 0: excluded", "0"], ["ReadNoSnp, big-endian, 1 byte, lane 3: excluded but met", "7"]), "cells that are excluded")
+    same(browser.value("(({outlineStyle}) => outlineStyle)(getComputedStyle(document.querySelector('td.excluded')))"), "dashed", "how an excluded cell is marked, beside its colour")
+    rules = [["excluded", "ReadNoSnp, big-endian, *", "30", cover_sample.PLAN[0]["why"]], ["at least 1", "ReadNoSnp, big-endian, 8 *", "2", "but of these"], ["at least 3", "* while *", "36", ""]]
+    same(browser.value("[...document.querySelectorAll('#plan tbody tr')].map((row) => [...row.cells].map((cell) => cell.textContent))"), rules, "rules of the plan")
+    same(browser.value("document.querySelectorAll('b').length"), 0, "elements in the reason of a rule")
+    browser.value("document.querySelector('.choice input').click()")
+    same(browser.value("[...document.querySelectorAll('table')].filter((it) => it.offsetParent !== null).length"), 3, "tables in which something is missing, and the rules")
+    same(browser.value("[...document.querySelectorAll('table:not(.plan) tbody tr')].filter((row) => row.offsetParent !== null).length"), 2, "rows in which something is missing")
+
+
 def try_colours(pages):
     """The page follows what the browser is set to."""
     browser, found = pages.browser, []
@@ -85,6 +110,7 @@ def try_cover(pages):
     try_lanes(pages)
     try_choice(pages)
     try_goal(pages)
+    try_plan(pages)
     try_colours(pages)
     whole = cover_sample.coverage(lambda name: 1)
     pages.open(cover_sample.page(whole), "a coverage of all bins")

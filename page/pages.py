@@ -28,7 +28,7 @@ class Pages:
     def open(self, text, what):
         """Opens a page with this text."""
         path = f"{self.folder}/page.html"
-        with open(path, "w", encoding="ascii") as file:
+        with open(path, "w", encoding="utf-8") as file:
             file.write(text)
         self.show(path, what)
 

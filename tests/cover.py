@@ -1,5 +1,6 @@
 #!/usr/bin/env python3
-"""What chicheck cover counts, as a process: the table of a trace, of several files and of events, as text and as JSON, and its page."""
+"""What chicheck cover counts, as a process: the table of a trace, of several files and of events, as text and as JSON, by plans, and its
+page."""
 
 import json
 import os
@@ -13,7 +14,7 @@ sys.dont_write_bytecode = True
 sys.path += ["page", "tests/oracle"]
 
 import cover_sample
-from coverage import counted_as_json
+from coverage import counted_as_json, text_of
 from histories import told_by_chance
 from meeting import meeting, met
 from process import CHECKER, HOME, build, data_of, end, run, told, trace, wants
@@ -51,6 +52,8 @@ COVERED_BINS = {
     "an overlap with an earlier operation of another requester": 1,
     "ReadNoSnp after AtomicLoad": 1,
 }
+
+OVERLAP = "AtomicLoad while AtomicLoad was open"
 
 # The groups of operations that overlap or follow one another.
 MET = ["overlaps", "sequences", "line sequences"]
@@ -120,7 +123,7 @@ def counts_as_json():
         ("two adds and a read", example("two_adds"), COVERED_BINS, []),
         ("two adds and refusals", refusing, added, ["OutOfRegion", *REASONS]),
     ]:
-        wanted = json.dumps(cover_sample.coverage(lambda name, bins=bins: bins.get(name, 0), reasons), separators=(",", ":"))
+        wanted = cover_sample.written(cover_sample.coverage(lambda name, bins=bins: bins.get(name, 0), reasons))
         wants(f"counts as JSON: {case}", ["cover", "--format=json"], text, 0, f"{wanted}\n")
     text = run(CHECKER, ["cover", "--format", "text"], refusing)
     told("counts as text where that is asked for", text == run(CHECKER, ["cover"], refusing))
@@ -161,6 +164,141 @@ def added():
             told(f"added: {words}: {lines[-3:]}", [it for it in lines if it.startswith("added")] == last == lines[len(lines) - len(last) :])
     twice = run(CHECKER, ["cover", two, two], b"")[1]
     told(f"added: by a file twice: {twice[-100:]}", twice.endswith(f"added by {two}: 7\nadded by {two}: 0\n".encode()))
+
+
+def worked_out(words, files, text, goal, rules):
+    """What the rules of a plan make of the counts of runs without it: of each file in turn, with those before it, or of a text."""
+    covered = [int(cover_sample.coverage(lambda name: 0, (), goal, rules)["covered"])]
+    for place in range(1, max(len(files), 1) + 1):
+        alone = json.loads(run(CHECKER, ["cover", "--format", "json", *words, *files[:place]], text)[1])
+        bins = {name: int(count) for group in alone["groups"] for name, count in group["bins"]}
+        refused = [name for name, count in alone["refused"] for _ in range(int(count))]
+        wanted = cover_sample.coverage(bins.get, refused, goal, rules)
+        covered.append(int(wanted["covered"]))
+    return {**wanted, "added": [str(with_it - before) for before, with_it in zip(covered, covered[1:])]}
+
+
+def planned(case, path, rules, words=(), files=(), text=b"", goal=1):
+    """By a plan of these rules the text, the JSON, the page and the status are as worked out, however the file writes its texts."""
+    wanted = worked_out(words, files, text, goal, rules)
+    table, percent, page = text_of(wanted, files), int(wanted["percent"]), f"{path}.html"
+    case, words = f"plan: {case}: {words} {files}", ["cover", "--plan", path, "--goal", str(goal), *words, *files]
+    with open(path, "w", encoding="utf-8") as file:
+        json.dump(rules, file, ensure_ascii=False)
+    wants(case, words, text, 0, table)
+    wants(f"{case} as JSON", [*words, "--format", "json"], text, 0, f"{cover_sample.written(wanted)}\n")
+    wants(f"{case} with a page", [*words, "--html", page], text, 0, table)
+    with open(page, encoding="utf-8") as file:
+        told(f"{case}: other data of the page", data_of(file.read(), "coverage") == wanted)
+    with open(path, "w", encoding="ascii") as file:
+        json.dump(rules, file, indent=2)
+    for least, status in [(percent, 0), (percent + 1, 1)]:
+        wants(f"{case}: {least} of a hundred", [*words, "--require", str(least)], text, status, table)
+
+
+def plans():
+    """Rules exclude bins or give them a goal of their own; the last one that fits a bin decides. What a plan makes of some inputs is
+    worked out from their counts, and some lines of two_adds by hand."""
+    one = '{"bins":"open 2","why":"no"}'
+    faults = [
+        ("", "plan is not JSON"),
+        (f"[{one}", "plan is not JSON"),
+        (b'[{"bins":"open 2","why":"\xff"}]', "plan is not JSON"),
+        (one, "plan is not an array"),
+        ("null", "plan is not an array"),
+        ("[1]", "rule 1 is not an object"),
+        (f"[{one},[]]", "rule 2 is not an object"),
+        ("[{}]", "rule 1 member bins is missing"),
+        (f'[{one},{{"goal":1}}]', "rule 2 member bins is missing"),
+        ('[{"bins":5,"why":"no"}]', "rule 1 member bins is 5, and not a text"),
+        (f'[{one},{{"bins":"*"}}]', "rule 2 member why is missing"),
+        ('[{"bins":"*","why":null}]', "rule 1 member why is null, and not a text that says something"),
+        ('[{"bins":"*","goal":1,"why":[]}]', "rule 1 member why is a list, and not a text that says something"),
+        ('[{"bins":"*","why":""}]', 'rule 1 member why is "", and not a text that says something'),
+        ('[{"bins":"*","goal":-1}]', "rule 1 member goal is -1, and not a whole number below 2^64"),
+        (f'[{one},{{"bins":"*","goal":"3"}}]', 'rule 2 member goal is "3", and not a whole number below 2^64'),
+        ('[{"bins":"*","goal":1.5}]', "rule 1 member goal is a number, and not a whole number below 2^64"),
+        (f'[{{"bins":"*","goal":{2**64}}}]', "rule 1 member goal is a number, and not a whole number below 2^64"),
+        ('[{"bins":"*","goal":1,"foo":1}]', "rule 1 has an unknown member foo"),
+        (f'[{one},{{"bins":"*","why":"no","Goal":1}}]', "rule 2 has an unknown member Goal"),
+        ('[{"bins":"","why":"no"}]', "rule 1 has a pattern that no bin fits"),
+        ('[{"bins":"open","why":"no"}]', "rule 1 has a pattern that no bin fits"),
+        (f'[{one},{{"bins":"open ?","goal":1}},{one}]', "rule 2 has a pattern that no bin fits"),
+        ('[{"bins":"open [12]","goal":1}]', "rule 1 has a pattern that no bin fits"),
+        ('[{"bins":"OPEN *","goal":1}]', "rule 1 has a pattern that no bin fits"),
+        ('[{"bins":"AtomicLoad?*","goal":1}]', "rule 1 has a pattern that no bin fits"),
+    ]
+    met = [f"excluded but met: {name}: {count}" for name, count in COVERED_BINS.items()]
+    signs, most = 'a <b> & "c" \\ d</script>|größer als 1 € \U0001f642', 2**64 - 1
+    tried = [
+        ("no rule", [], COVERED),
+        (
+            "big-endian reads excluded",
+            [{"bins": "ReadNoSnp, big-endian, *", "why": "flits have no byte order of reads"}],
+            ["operations: 2 of 1170", "covered: 7 of 1380 (0%)", "excluded by ReadNoSnp, big-endian, *: 30 (flits have no byte order of reads)"],
+        ),
+        (
+            "a goal of 3 of overlaps",
+            [{"bins": "* while *", "goal": 3}],
+            ["overlaps: 0 of 36", "covered: 6 of 1410 (0%)", "at least 3 by * while *: 36", f"missing: {OVERLAP}: 1 of 3"],
+        ),
+        (
+            "all but reads excluded",
+            [{"bins": "*", "why": "reads alone"}, {"bins": "ReadNoSnp, *", "goal": 1, "why": "these"}],
+            ["compares: 0 of 0", "covered: 1 of 60 (1%)", "excluded by *: 1410 (reads alone)", "at least 1 by ReadNoSnp, *: 60 (these)", *met[1:]],
+        ),
+        (
+            "a part excluded again",
+            [{"bins": "*", "goal": 2}, {"bins": "open *", "why": "no"}, {"bins": "open 1", "goal": 3}],
+            ["open at once: 0 of 1", "covered: 1 of 1406 (0%)", "missing: open 1: 2 of 3", "excluded but met: open 2: 1"],
+        ),
+        (
+            "all excluded",
+            [{"bins": "*", "why": "none"}],
+            ["operations: 0 of 0", "line sequences: 0 of 0", "covered: 0 of 0 (100%)", "excluded by *: 1410 (none)", *met],
+        ),
+        (
+            "an excluded bin that is met",
+            [{"bins": "open 2", "why": "one at a time"}],
+            ["open at once: 1 of 4", "covered: 6 of 1409 (0%)", "excluded by open 2: 1 (one at a time)", "excluded but met: open 2: 1"],
+        ),
+        ("the greatest goal", [{"bins": "open 1", "goal": most}], [f"at least {most} by open 1: 1", f"missing: open 1: 2 of {most}"]),
+        ("a goal of 0", [{"bins": "**", "goal": 0}], ["covered: 1410 of 1410 (100%)", "at least 0 by **: 1410"]),
+        (
+            "stars within patterns",
+            [{"bins": "*.*, *-endian, 8 bytes, lane *", "goal": 2}, {"bins": "*Atomic*Atomic*", "why": "no"}, {"bins": "A*p while *", "goal": 1}],
+            ["at least 2 by *.*, *-endian, 8 bytes, lane *: 64", "excluded by *Atomic*Atomic*: 48 (no)", "at least 1 by A*p while *: 6"],
+        ),
+        (
+            "a reason of many signs",
+            [{"bins": "open *", "why": signs.replace("|", "\n")}, {"bins": "open 1", "goal": 1, "why": signs.replace("|", "\t")}],
+            [f"excluded by open *: 5 ({signs.replace('|', ' ')})", f"at least 1 by open 1: 1 ({signs.replace('|', ' ')})"],
+        ),
+        ("other members", [{"x-of": {"bins": [1]}, "why": "no", "bins": "open 2", "x-": None}], ["excluded by open 2: 1 (no)"]),
+    ]
+    whole = example("two_adds")
+    mixed = run(HOME, ["run", "--trace"], run(HOME, ["generate", "--refused", "30"], b"")[1])[1]
+    files = [f"examples/traces/{it}.json" for it in ("two_adds", "lost_update", "overlapping_swaps")]
+    with tempfile.TemporaryDirectory() as folder:
+        path, page = f"{folder}/plan.json", f"{folder}/cover.html"
+        for case, rules, lines in tried:
+            planned(case, path, rules, text=whole)
+            planned(case, path, rules, text=mixed)
+            planned(case, path, rules, files=files)
+            planned(case, path, rules, files=files, goal=3)
+            planned(case, path, rules, ["--events"], ["examples/events/two_adds.jsonl"])
+            counted(f"plan: {case}", ["--plan", path], whole, lines)
+            counted_as_json(f"plan: {case}", ["cover", "--plan", path, *files], b"")
+        with open(path, "w", encoding="ascii") as file:
+            file.write("[]")
+        told("plan: no rule: another text", run(CHECKER, ["cover", "--plan", path], whole) == run(CHECKER, ["cover"], whole))
+        for text, fault in faults:
+            with open(path, "wb") as file:
+                file.write(text if isinstance(text, bytes) else text.encode())
+            wants(f"plan: {text}", ["cover", "--plan", path, "--html", page], whole, 3, errors=f"chicheck: {path}: {fault}\n")
+        path = f"{folder}/none.json"
+        wants("plan: no file", ["cover", "--plan", path, "--html", page], whole, 5, errors=f"chicheck: {path}: input could not be read\n")
+        told("plan: a page in spite of a fault", not os.path.exists(page))
 
 
 def refusals_of(reasons):
@@ -226,6 +364,7 @@ goals()
 counts_as_json()
 met_as_defined()
 added()
+plans()
 with tempfile.TemporaryDirectory() as folder:
     inputs(folder)
-end(400)
+end(1300)

@@ -9,6 +9,7 @@ from pathlib import Path
 
 os.chdir(f"{os.path.dirname(os.path.abspath(__file__))}/..")
 sys.dont_write_bytecode = True
+sys.path.append("page")
 
 from coverage import counted_as_json
 from lines import ADD, HIGH, LOW, READ, STORE, WRITE, answers, asks, drops, ends, point, rdat, req, rsp, sends, wdat
@@ -68,4 +69,4 @@ def covered_with_points():
 build("chicheck")
 for tried in [saved, covered, covered_with_points]:
     tried()
-end(10)
+end(11)

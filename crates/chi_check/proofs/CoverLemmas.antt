@@ -25,9 +25,9 @@ pub record AreNone (counted : Counted) : Type 0 where
   pub added : counted.added.items ≡ []
 
 -- no input was counted
-none_counted : (goal : ℕ) (lines : Option LineFormat) (counted : Counted) → AreNone counted → AreCounted goal lines [] counted
+none_counted : (goals : Bin → Option ℕ) (lines : Option LineFormat) (counted : Counted) → AreNone counted → AreCounted goals lines [] counted
 unfolding AreOfEach added_after
-none_counted goal lines counted none =
+none_counted goals lines counted none =
     record { told = []; of = tt; are = λ bin is. none.covered bin ∙ refl; refused = λ reason. none.refused reason ∙ refl; added = none.added }
 
 of_more : (lines : Option LineFormat) (inputs : List (List ℕ)) (told : List Told) (input : List ℕ) (one : Told) → AreOfEach lines inputs told → length input ≤ most_bytes
@@ -49,9 +49,9 @@ counts_more told one old new are added bin here =
     two_sums (count_in old bin) (count_in new bin) (sum_by sum told) (count_of one.operations bin) most (are bin here) (added bin here) ∙ ap (λ n. min n most) (sym (sum_by_push sum told one))
 
 -- one input more
-counted_more : (goal : ℕ) (lines : Option LineFormat) (inputs : List (List ℕ)) (input : List ℕ) (old new : Counted) → length input ≤ most_bytes → AreCounted goal lines inputs old
-    → Adds goal lines input old new → AreCounted goal lines (inputs ++ input ∷ []) new
-counted_more goal lines inputs input old new within counted (ops, refusals, is, adds) =
+counted_more : (goals : Bin → Option ℕ) (lines : Option LineFormat) (inputs : List (List ℕ)) (input : List ℕ) (old new : Counted) → length input ≤ most_bytes → AreCounted goals lines inputs old
+    → Adds goals lines input old new → AreCounted goals lines (inputs ++ input ∷ []) new
+counted_more goals lines inputs input old new within counted (ops, refusals, is, adds) =
     let one : Told = record { operations = ops; refusals = refusals } in
     let are : AreCounts (counted.told ++ one ∷ []) new.covered = counts_more counted.told one old.covered new.covered counted.are adds.covered in
     record {
@@ -62,15 +62,15 @@ counted_more goal lines inputs input old new within counted (ops, refusals, is, 
           let sum = λ (t : Told). refused_times t.refusals reason in
           two_sums (refused_in old.refusals reason) (refused_in new.refusals reason) (sum_by sum counted.told) (refused_times refusals reason) most (counted.refused reason) (adds.refused reason)
           ∙ ap (λ n. min n most) (sym (sum_by_push sum counted.told one));
-      added = added_more goal counted.told one old.covered new.covered old.added.items new.added.items counted.are are counted.added adds.added;
+      added = added_more goals counted.told one old.covered new.covered old.added.items new.added.items counted.are are counted.added adds.added;
     }
 
 -- where nothing was counted before, it is what the input tells
-pub one_counted : (goal : ℕ) (lines : Option LineFormat) (input : List ℕ) (old new : Counted) → AreNone old → length input ≤ most_bytes → Adds goal lines input old new
-    → AreCounted goal lines (input ∷ []) new
-one_counted goal lines input old new none within adds = counted_more goal lines [] input old new within (none_counted goal lines old none) adds
+pub one_counted : (goals : Bin → Option ℕ) (lines : Option LineFormat) (input : List ℕ) (old new : Counted) → AreNone old → length input ≤ most_bytes → Adds goals lines input old new
+    → AreCounted goals lines (input ∷ []) new
+one_counted goals lines input old new none within adds = counted_more goals lines [] input old new within (none_counted goals lines old none) adds
 
-module _ (holds : List ℕ → List ℕ → Type 0) (goal : ℕ) (lines : Option LineFormat) where
+module _ (holds : List ℕ → List ℕ → Type 0) (goals : Bin → Option ℕ) (lines : Option LineFormat) where
   held_more : (paths inputs : List (List ℕ)) (path input : List ℕ) → AreHeld holds paths inputs → holds path input → AreHeld holds (paths ++ path ∷ []) (inputs ++ input ∷ [])
   unfolding AreHeld
   held_more [] [] path input held is = (is, tt)
@@ -79,22 +79,22 @@ module _ (holds : List ℕ → List ℕ → Type 0) (goal : ℕ) (lines : Option
   held_more (p ∷ paths) (i ∷ inputs) path input (here, held) is = (here, held_more paths inputs path input held is)
 
   -- no file was counted
-  pub no_file : (counted : Counted) → AreNone counted → AreOfFiles holds goal lines [] counted
+  pub no_file : (counted : Counted) → AreNone counted → AreOfFiles holds goals lines [] counted
   unfolding AreHeld
-  no_file counted none = ([], tt, none_counted goal lines counted none)
+  no_file counted none = ([], tt, none_counted goals lines counted none)
 
   -- one file more
-  pub file_more : (paths : List (List ℕ)) (path : List ℕ) (old new : Counted) → AreOfFiles holds goal lines paths old → AddsFile holds goal lines path old new
-      → AreOfFiles holds goal lines (paths ++ path ∷ []) new
+  pub file_more : (paths : List (List ℕ)) (path : List ℕ) (old new : Counted) → AreOfFiles holds goals lines paths old → AddsFile holds goals lines path old new
+      → AreOfFiles holds goals lines (paths ++ path ∷ []) new
   file_more paths path old new (inputs, held, counted) (input, is, within, adds) =
-      (inputs ++ input ∷ [], held_more paths inputs path input held is, counted_more goal lines inputs input old new within counted adds)
+      (inputs ++ input ∷ [], held_more paths inputs path input held is, counted_more goals lines inputs input old new within counted adds)
 
   pub next_file : (files : List (Bor (List ℕ))) (n : ℕ) (d : Bor (List ℕ)) (old new : Counted) → n < length files
-      → AreOfFiles holds goal lines (map (λ path. path.now) (take n files)) old → AddsFile holds goal lines (get_or files n d).now old new
-      → AreOfFiles holds goal lines (map (λ path. path.now) (take (n + 1) files)) new
+      → AreOfFiles holds goals lines (map (λ path. path.now) (take n files)) old → AddsFile holds goals lines (get_or files n d).now old new
+      → AreOfFiles holds goals lines (map (λ path. path.now) (take (n + 1) files)) new
   next_file files n d old new below are adds =
       let text = λ (path : Bor (List ℕ)). path.now in
-      subst (λ (l : List (List ℕ)). AreOfFiles holds goal lines l new) (sym (ap (map text) (take_more files n d below) ∙ map_push text (take n files) (get_or files n d)))
+      subst (λ (l : List (List ℕ)). AreOfFiles holds goals lines l new) (sym (ap (map text) (take_more files n d below) ∙ map_push text (take n files) (get_or files n d)))
       (file_more (map text (take n files)) (get_or files n d).now old new are adds)
 
   -- a file was not counted
@@ -105,7 +105,7 @@ module _ (holds : List ℕ → List ℕ → Type 0) (goal : ℕ) (lines : Option
       ((get_or files n d).now, slice_get-map text files n ∙ ap (option_map text) (slice_get-get_or files n d below), is)
 
 -- the counts are those of the input
-pub input_counted : (goal : ℕ) (lines : Option LineFormat) (remaining : Option (List ℕ)) (input : List ℕ) (counts : Counted) → IfSome remaining (λ bytes. input ≡ bytes)
-    → AreCounted goal lines (input ∷ []) counts → IfSome remaining (λ bytes. AreCounted goal lines (bytes ∷ []) counts)
-input_counted goal lines None input counts same is = tt
-input_counted goal lines (Some bytes) input counts same is = subst (λ (l : List ℕ). AreCounted goal lines (l ∷ []) counts) same is
+pub input_counted : (goals : Bin → Option ℕ) (lines : Option LineFormat) (remaining : Option (List ℕ)) (input : List ℕ) (counts : Counted) → IfSome remaining (λ bytes. input ≡ bytes)
+    → AreCounted goals lines (input ∷ []) counts → IfSome remaining (λ bytes. AreCounted goals lines (bytes ∷ []) counts)
+input_counted goals lines None input counts same is = tt
+input_counted goals lines (Some bytes) input counts same is = subst (λ (l : List ℕ). AreCounted goals lines (l ∷ []) counts) same is

@@ -94,13 +94,7 @@ module _ (options : WatchOptions) (old mid new : Option (List ℕ)) (watched : W
   closed_in : (input : List ℕ) (result : Result ℕ CheckFault) → IsWatched options.format input options.keep_going options.around watched → WritesClosing options watched mid new result → WatchOutcome options input old new result
   closed_in input (Ok status) is (status_is, appends) = (watched, is, status_is, taken_then old mid new (flat_map (found_text options.answer) watched.found.items) (closing_text options watched) told appends)
   closed_in input (Err (check_fault.Write fault)) is front = inl (watched, is, front_then old mid new (flat_map (found_text options.answer) watched.found.items) (closing_text options watched) told front)
-  closed_in input (Err (check_fault.Input fault)) is (same, keeps) = no_memory input (check_fault.Input fault) is same keeps
-  closed_in input (Err (check_fault.File place fault)) is (same, keeps) = no_memory input (check_fault.File place fault) is same keeps
-  closed_in input (Err (check_fault.Untold addr)) is (same, keeps) = no_memory input (check_fault.Untold addr) is same keeps
-  closed_in input (Err check_fault.Page) is (same, keeps) = no_memory input check_fault.Page is same keeps
-  closed_in input (Err (check_fault.Unfinished fault)) is (same, keeps) = no_memory input (check_fault.Unfinished fault) is same keeps
-  closed_in input (Err check_fault.Unsaved) is (same, keeps) = no_memory input check_fault.Unsaved is same keeps
-  closed_in input (Err check_fault.Unshown) is (same, keeps) = no_memory input check_fault.Unshown is same keeps
+  closed_in input (Err fault) is (same, keeps) = no_memory input fault is same keeps
 
   pub closed : (remaining : Option (List ℕ)) (result : Result ℕ CheckFault) → IfSome remaining (λ input. IsWatched options.format input options.keep_going options.around watched) → WritesClosing options watched mid new result
       → IfSome remaining (λ input. WatchOutcome options input old new result)
@@ -115,13 +109,7 @@ module _ (options : WatchOptions) (old mid new : Option (List ℕ)) (watched : W
   pub closed_unanswered : (result : Result ℕ CheckFault) → WritesClosing options watched mid new result → KeepsUnanswered old new result
   closed_unanswered (Ok status) writes = tt
   closed_unanswered (Err (check_fault.Write fault)) writes = tt
-  closed_unanswered (Err (check_fault.Input fault)) (same, keeps) = kept_memory (check_fault.Input fault) same keeps
-  closed_unanswered (Err (check_fault.File place fault)) (same, keeps) = kept_memory (check_fault.File place fault) same keeps
-  closed_unanswered (Err (check_fault.Untold addr)) (same, keeps) = kept_memory (check_fault.Untold addr) same keeps
-  closed_unanswered (Err check_fault.Page) (same, keeps) = kept_memory check_fault.Page same keeps
-  closed_unanswered (Err (check_fault.Unfinished fault)) (same, keeps) = kept_memory (check_fault.Unfinished fault) same keeps
-  closed_unanswered (Err check_fault.Unsaved) (same, keeps) = kept_memory check_fault.Unsaved same keeps
-  closed_unanswered (Err check_fault.Unshown) (same, keeps) = kept_memory check_fault.Unshown same keeps
+  closed_unanswered (Err fault) (same, keeps) = kept_memory fault same keeps
 
 -- the status of what is found is one of an answer
 pub watched_status : (options : WatchOptions) (old new : Option (List ℕ)) (watched : Watched) (result : Result ℕ CheckFault) → WritesClosing options watched old new result → IfOk result IsAnswerStatus
@@ -166,8 +154,8 @@ module _ (IsCut : Option ℕ → Type 0) (holds : List ℕ → List ℕ → Type
       (answer, text, answers, status_is, appends_kept old mid new text appends keeps)
   flushed (Watch options file) (Some input) old mid new status (watched, is, status_is, appends) keeps =
       (watched, is, status_is, appends_kept old mid new (watched_text (watching options) watched) appends keeps)
-  flushed (Cover options) (Some input) old mid new status (counts, has, status_is, appends) keeps =
-      (counts, has, status_is, appends_kept old mid new (written_of options counts) appends keeps)
+  flushed (Cover options) (Some input) old mid new status (plan, counts, has, status_is, appends) keeps =
+      (plan, counts, has, status_is, appends_kept old mid new (written_of options plan counts) appends keeps)
 
   flush_failed : (task : Task) (remaining old mid new : Option (List ℕ)) (status : ℕ) (fault : WriteFault) → IfSome remaining (λ input. TaskOutcome IsCut holds task input old mid (Ok status))
       → Keeps mid new → IfSome remaining (λ input. TaskOutcome IsCut holds task input old new (Err (check_fault.Write fault)))
@@ -176,8 +164,8 @@ module _ (IsCut : Option ℕ → Type 0) (holds : List ℕ → List ℕ → Type
       (answer, text, answers, whole_front old new text (appends_kept old mid new text appends keeps))
   flush_failed (Watch options file) (Some input) old mid new status fault (watched, is, status_is, appends) keeps =
       inl (watched, is, whole_front old new (watched_text (watching options) watched) (appends_kept old mid new (watched_text (watching options) watched) appends keeps))
-  flush_failed (Cover options) (Some input) old mid new status fault (counts, has, status_is, appends) keeps =
-      (counts, has, whole_front old new (written_of options counts) (appends_kept old mid new (written_of options counts) appends keeps))
+  flush_failed (Cover options) (Some input) old mid new status fault (plan, counts, has, status_is, appends) keeps =
+      (plan, counts, has, whole_front old new (written_of options plan counts) (appends_kept old mid new (written_of options plan counts) appends keeps))
 
   -- a task whose text was flushed, or could not be, came to an outcome of this status
   pub ended : (task : Task) (remaining old mid new : Option (List ℕ)) (done status : ℕ) → IfSome remaining (λ input. TaskOutcome IsCut holds task input old mid (Ok done)) → Keeps mid new

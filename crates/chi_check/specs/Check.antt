@@ -17,7 +17,7 @@ use Rattle.chi_answer.specs.Answers.{IfUndecided, IsAnswer}
 use Rattle.chi_check.specs.CheckStatus.{answer_status}
 use Rattle.chi_check.specs.Limits.{IsWithin}
 use Rattle.chi_check.specs.declared.fault.CheckFault.{CheckFault}
-use Rattle.chi_check.specs.declared.fault.CheckFault.TheVariants.{Input, File, Page, Unfinished, Untold, Unsaved, Unshown, Write}
+use Rattle.chi_check.specs.declared.fault.CheckFault.TheVariants.{Input, Page, Unfinished, Untold, Unsaved, Unshown, Write}
 use Rattle.chi_check.specs.declared.fault.SourceFault.{SourceFault}
 use Rattle.chi_check.specs.declared.fault.SourceFault.TheVariants as source_fault
 use Rattle.chi_check.specs.declared.options.CheckOptions.{CheckOptions}
@@ -88,13 +88,10 @@ Outcome IsCut options input old new (Err (Input source_fault.TooLong)) = most_by
 Outcome IsCut options input old new (Err (Input source_fault.Memory)) = Unit {0}
 Outcome IsCut options input old new (Err (Input (source_fault.Trace fault))) = HasNoTrace options.lines input (source_fault.Trace fault)
 Outcome IsCut options input old new (Err (Input (source_fault.Events fault))) = HasNoTrace options.lines input (source_fault.Events fault)
-Outcome IsCut options input old new (Err (File place fault)) = ⊥
 Outcome IsCut options input old new (Err (Untold addr)) = (recorded : RecordedValue) × HasTrace options.lines input recorded × (untold options.granule recorded ≡ Some addr)
 Outcome IsCut options input old new (Err Page) = (answer : Answer) × (text : List ℕ) × Answers IsCut options input answer text × IsTrue (is_some options.html)
-Outcome IsCut options input old new (Err (Unfinished fault)) = ⊥
-Outcome IsCut options input old new (Err Unsaved) = ⊥
-Outcome IsCut options input old new (Err Unshown) = ⊥
 Outcome IsCut options input old new (Err (Write fault)) = (answer : Answer) × (text : List ℕ) × Answers IsCut options input answer text × AppendsFront old new text
+Outcome IsCut options input old new (Err fault) = ⊥
 
 -- nothing is written where no answer was found, but granules before a fault of the events, or where lines were not saved or no page of a granule was put
 abbrev pub KeepsUnanswered : Option (List ℕ) → Option (List ℕ) → Result ℕ CheckFault → Type 0

@@ -8,7 +8,10 @@ use Rattle.chi_watch_text.specs.Illegal.{is_illegal}
 use Rattle.chi_watch_text.specs.declared.fault.LinesFault.{LinesFault}
 use Rattle.chi_watch_text.specs.declared.fault.LinesFault.TheVariants as lines_fault
 use Rattle.chi_check.specs.declared.fault.CheckFault.{CheckFault}
-use Rattle.chi_check.specs.declared.fault.CheckFault.TheVariants.{Input, File, Page, Unfinished, Untold, Unsaved, Unshown, Write}
+use Rattle.chi_check.specs.declared.fault.CheckFault.TheVariants.{Input, File, Plan, Page, Unfinished, Untold, Unsaved, Unshown, Write}
+use Rattle.chi_check.specs.declared.fault.PlanFileFault.{PlanFileFault}
+use Rattle.chi_check.specs.declared.fault.PlanFileFault.TheVariants.{Read, TooLong, Refused}
+use Rattle.chi_plan.specs.declared.fault.PlanFault.TheVariants as plan_fault
 use Rattle.chi_check.specs.declared.fault.SourceFault.{SourceFault}
 use Rattle.chi_check.specs.declared.fault.SourceFault.TheVariants as source_fault
 
@@ -32,10 +35,18 @@ source_status source_fault.Memory = 4
 source_status (source_fault.Trace fault) = trace_status fault
 source_status (source_fault.Events fault) = lines_status fault
 
+-- a plan that is refused, or for which there is no memory, or whose file was not read
+abbrev pub plan_status : PlanFileFault → ℕ
+plan_status Read = 5
+plan_status TooLong = 3
+plan_status (Refused plan_fault.Memory) = 4
+plan_status (Refused fault) = 3
+
 -- 3 where the trace or an event is refused, 4 out of memory, 5 where a device failed
 abbrev pub status_of : CheckFault → ℕ
 status_of (Input fault) = source_status fault
 status_of (File place fault) = source_status fault
+status_of (Plan fault) = plan_status fault
 status_of (Untold addr) = 3
 status_of Page = 5
 status_of (Unfinished fault) = lines_status fault

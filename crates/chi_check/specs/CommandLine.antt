@@ -66,15 +66,19 @@ goal_rule = number_rule_or (codes "goal") (codes "1")
 abbrev pub require_rule : Rule
 require_rule = number_rule_or (codes "require") (codes "0")
 
+-- the file of a plan is any text
+abbrev pub plan_rule : Rule
+plan_rule = text_rule (codes "plan") []
+
 -- the files that are counted are any texts, of which there may be none
 abbrev pub files_rule : Rule
 files_rule = record (new_rule (codes "file")) { value_names = 1; action = Some Append }
 
--- The task `cover`: it has these numbers. Its inputs may tell events, or flits with points or without and what errors say of them. A form
+-- The task `cover`: it has these numbers, and the file of a plan. Its inputs may tell events, or flits with points or without and what errors say of them. A form
 -- of the answer may be asked for. It has the file of a page, and files that are counted.
 abbrev pub cover_app : App
 cover_app =
-    with_rule (with_rule (with_rule (with_rule (with_rule (with_rule (with_rule (with_rule (with_rule (new_app (codes "cover")) goal_rule) require_rule) (switch_rule (codes "events"))) (switch_rule (codes "flits"))) (switch_rule (codes "points"))) errors_rule) format_rule) html_rule) files_rule
+    with_rule (with_rule (with_rule (with_rule (with_rule (with_rule (with_rule (with_rule (with_rule (with_rule (new_app (codes "cover")) goal_rule) plan_rule) require_rule) (switch_rule (codes "events"))) (switch_rule (codes "flits"))) (switch_rule (codes "points"))) errors_rule) format_rule) html_rule) files_rule
 
 -- the program, with its tasks `explain`, `watch` and `cover`
 abbrev pub program_app : App

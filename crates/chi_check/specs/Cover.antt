@@ -15,12 +15,14 @@ use Rattle.chi_cover.specs.Bins.{all_bins}
 use Rattle.chi_cover.specs.Counts.{IsAdded, count_in, count_of, covered_of, most, percent_of}
 use Rattle.chi_cover.specs.Json.{cover_json}
 use Rattle.chi_cover.specs.Page.{page_text}
+use Rattle.chi_cover.specs.Plan.{PlanValue, goal_in}
 use Rattle.chi_cover.specs.Refusals.{AreRefused, refusals_text, refused_in, refused_times}
 use Rattle.chi_cover.specs.Texts.{table_text}
 use Rattle.chi_check.specs.Check.{most_bytes}
+use Rattle.chi_check.specs.Planned.{IsPlanFault, IsPlanned}
 use Rattle.chi_check.specs.declared.inputs.Counted.{Counted}
 use Rattle.chi_check.specs.declared.fault.CheckFault.{CheckFault}
-use Rattle.chi_check.specs.declared.fault.CheckFault.TheVariants.{Input, File, Page, Unfinished, Untold, Unsaved, Unshown, Write}
+use Rattle.chi_check.specs.declared.fault.CheckFault.TheVariants.{Input, File, Plan, Page, Write}
 use Rattle.chi_check.specs.declared.fault.SourceFault.{SourceFault}
 use Rattle.chi_check.specs.declared.fault.SourceFault.TheVariants as source_fault
 use Rattle.chi_answer.specs.declared.format.AnswerFormat.{AnswerFormat}
@@ -81,44 +83,44 @@ abbrev pub AreRefusalCounts : List Told → List ℕ → Type 0
 AreRefusalCounts told counts = (reason : Refusal) → refused_in counts reason ≡ min (sum_by (λ t. refused_times t.refusals reason) told) most
 
 -- how many bins are covered by these inputs
-abbrev pub covered_by : ℕ → List Told → ℕ
-covered_by goal told = covered_of goal (counts_of told) all_bins
+abbrev pub covered_by : (Bin → Option ℕ) → List Told → ℕ
+covered_by goals told = covered_of goals (counts_of told) all_bins
 
 -- How many bins each further input added: how many are covered by the inputs up to it and with it, less how many are covered by those
 -- before it.
-unfoldable pub added_after : ℕ → List Told → List Told → List ℕ
-added_after goal before [] = []
-added_after goal before (told ∷ others) = (covered_by goal (before ++ told ∷ []) - covered_by goal before) ∷ added_after goal (before ++ told ∷ []) others
+unfoldable pub added_after : (Bin → Option ℕ) → List Told → List Told → List ℕ
+added_after goals before [] = []
+added_after goals before (told ∷ others) = (covered_by goals (before ++ told ∷ []) - covered_by goals before) ∷ added_after goals (before ++ told ∷ []) others
 
 -- how many bins each input added
-abbrev pub added_of : ℕ → List Told → List ℕ
-added_of goal told = added_after goal [] told
+abbrev pub added_of : (Bin → Option ℕ) → List Told → List ℕ
+added_of goals told = added_after goals [] told
 
 -- these are the counts of what these inputs tell, and of how many bins each added
-pub record AreCounted (goal : ℕ) (lines : Option LineFormat) (inputs : List (List ℕ)) (counted : Counted) : Type 0 where
+pub record AreCounted (goals : Bin → Option ℕ) (lines : Option LineFormat) (inputs : List (List ℕ)) (counted : Counted) : Type 0 where
   pub told : List Told
   pub of : AreOfEach lines inputs told
   pub are : AreCounts told counted.covered
   pub refused : AreRefusalCounts told counted.refusals
-  pub added : counted.added.items ≡ added_of goal told
+  pub added : counted.added.items ≡ added_of goals told
 
--- the text of counts: the table of what was covered, each bin by so many operations, how many requests were refused, and what each of the
--- files added where two or more are named
-abbrev pub cover_text : CoverOptions → Counted → List ℕ
-cover_text options counted =
-    table_text options.goal (count_in counted.covered) ++ (refusals_text (refused_in counted.refusals) ++ added_lines counted.added.items (paths_of options))
+-- the text of counts: the table of what was covered by a plan, how many requests were refused, and what each of the files added where
+-- two or more are named
+abbrev pub cover_text : CoverOptions → PlanValue → Counted → List ℕ
+cover_text options plan counted =
+    table_text plan (count_in counted.covered) ++ (refusals_text (refused_in counted.refusals) ++ added_lines counted.added.items (paths_of options))
 
 -- the JSON of counts
-abbrev pub json_of : ℕ → Counted → List ℕ
-json_of goal counted = cover_json goal counted.added.items (count_in counted.covered) (refused_in counted.refusals)
+abbrev pub json_of : PlanValue → Counted → List ℕ
+json_of plan counted = cover_json plan counted.added.items (count_in counted.covered) (refused_in counted.refusals)
 
 -- what is written of counts, in the form that is asked for
-abbrev pub written_in : AnswerFormat → CoverOptions → Counted → List ℕ
-written_in Text options counted = cover_text options counted
-written_in Json options counted = json_of options.goal counted
+abbrev pub written_in : AnswerFormat → CoverOptions → PlanValue → Counted → List ℕ
+written_in Text options plan counted = cover_text options plan counted
+written_in Json options plan counted = json_of plan counted
 
-abbrev pub written_of : CoverOptions → Counted → List ℕ
-written_of options counted = written_in options.format options counted
+abbrev pub written_of : CoverOptions → PlanValue → Counted → List ℕ
+written_of options plan counted = written_in options.format options plan counted
 
 -- 1 where fewer of a hundred bins are covered than have to be, and else 0
 pub record IsCoverStatus (require percent status : ℕ) : Type 0 where
@@ -140,32 +142,32 @@ IsFileFault holds lines path source_fault.TooLong = Unit {0}
 IsFileFault holds lines path source_fault.Memory = Unit {0}
 IsFileFault holds lines path fault = (input : List ℕ) × holds path input × IsTraceFault lines input fault
 
--- how many bins have counted so many operations
-abbrev pub covered_in : ℕ → List ℕ → ℕ
-covered_in goal counts = covered_of goal (count_in counts) all_bins
+-- how many bins are covered by counts
+abbrev pub covered_in : (Bin → Option ℕ) → List ℕ → ℕ
+covered_in goals counts = covered_of goals (count_in counts) all_bins
 
 -- the new counts have counted these operations and refusals more, and how many more bins are covered
-pub record AddsTold (goal : ℕ) (ops : List Operation) (refusals : List Refusal) (old new : Counted) : Type 0 where
+pub record AddsTold (goals : Bin → Option ℕ) (ops : List Operation) (refusals : List Refusal) (old new : Counted) : Type 0 where
   pub covered : IsAdded ops old.covered new.covered
   pub refused : AreRefused refusals old.refusals new.refusals
-  pub added : new.added.items ≡ old.added.items ++ (covered_in goal new.covered - covered_in goal old.covered) ∷ []
+  pub added : new.added.items ≡ old.added.items ++ (covered_in goals new.covered - covered_in goals old.covered) ∷ []
 
 -- the new counts have counted what an input tells more
-abbrev pub Adds : ℕ → Option LineFormat → List ℕ → Counted → Counted → Type 0
-Adds goal lines input old new = (ops : List Operation) × (refusals : List Refusal) × AreOf lines input ops refusals × AddsTold goal ops refusals old new
+abbrev pub Adds : (Bin → Option ℕ) → Option LineFormat → List ℕ → Counted → Counted → Type 0
+Adds goals lines input old new = (ops : List Operation) × (refusals : List Refusal) × AreOf lines input ops refusals × AddsTold goals ops refusals old new
 
 -- the same of what the file of a path holds
-abbrev pub AddsFile : (List ℕ → List ℕ → Type 0) → ℕ → Option LineFormat → List ℕ → Counted → Counted → Type 0
-AddsFile holds goal lines path old new = (input : List ℕ) × holds path input × (length input ≤ most_bytes) × Adds goal lines input old new
+abbrev pub AddsFile : (List ℕ → List ℕ → Type 0) → (Bin → Option ℕ) → Option LineFormat → List ℕ → Counted → Counted → Type 0
+AddsFile holds goals lines path old new = (input : List ℕ) × holds path input × (length input ≤ most_bytes) × Adds goals lines input old new
 
 -- these are the counts of what these files hold
-abbrev pub AreOfFiles : (List ℕ → List ℕ → Type 0) → ℕ → Option LineFormat → List (List ℕ) → Counted → Type 0
-AreOfFiles holds goal lines paths counted = (inputs : List (List ℕ)) × AreHeld holds paths inputs × AreCounted goal lines inputs counted
+abbrev pub AreOfFiles : (List ℕ → List ℕ → Type 0) → (Bin → Option ℕ) → Option LineFormat → List (List ℕ) → Counted → Type 0
+AreOfFiles holds goals lines paths counted = (inputs : List (List ℕ)) × AreHeld holds paths inputs × AreCounted goals lines inputs counted
 
 -- the inputs have these counts
-abbrev pub HasCounts : (List ℕ → List ℕ → Type 0) → CoverOptions → List ℕ → Counted → Type 0
-HasCounts holds options input counted =
-    (inputs : List (List ℕ)) × AreInputs holds (paths_of options) input inputs × AreCounted options.goal options.lines inputs counted
+abbrev pub HasCounts : (List ℕ → List ℕ → Type 0) → CoverOptions → (Bin → Option ℕ) → List ℕ → Counted → Type 0
+HasCounts holds options goals input counted =
+    (inputs : List (List ℕ)) × AreInputs holds (paths_of options) input inputs × AreCounted goals options.lines inputs counted
 
 -- why the standard input was not counted
 abbrev pub IsInputFault : Option LineFormat → List ℕ → CheckFault → Type 0
@@ -174,13 +176,7 @@ IsInputFault lines input (Input source_fault.TooLong) = most_bytes < length inpu
 IsInputFault lines input (Input source_fault.Memory) = Unit {0}
 IsInputFault lines input (Input (source_fault.Trace fault)) = IsTraceFault lines input (source_fault.Trace fault)
 IsInputFault lines input (Input (source_fault.Events fault)) = IsTraceFault lines input (source_fault.Events fault)
-IsInputFault lines input (File place fault) = ⊥
-IsInputFault lines input (Untold addr) = ⊥
-IsInputFault lines input Page = ⊥
-IsInputFault lines input (Unfinished fault) = ⊥
-IsInputFault lines input Unsaved = ⊥
-IsInputFault lines input Unshown = ⊥
-IsInputFault lines input (Write fault) = ⊥
+IsInputFault lines input fault = ⊥
 
 -- why the files were not counted
 abbrev pub AreFilesFault : (List ℕ → List ℕ → Type 0) → Option LineFormat → List (List ℕ) → CheckFault → Type 0
@@ -193,21 +189,29 @@ abbrev pub AreInputsFault : (List ℕ → List ℕ → Type 0) → Option LineFo
 AreInputsFault holds lines [] input fault = IsInputFault lines input fault
 AreInputsFault holds lines (path ∷ paths) input fault = AreFilesFault holds lines (path ∷ paths) fault
 
--- After Ok the counts were written in the form that is asked for, and the status is 1 where fewer of a hundred bins are covered than
--- have to be. What each fault means, and what was written then: nothing but where the writer failed.
+-- the plan was read and has these counts
+pub record HasPlanned (holds : List ℕ → List ℕ → Type 0) (options : CoverOptions) (input : List ℕ) (plan : PlanValue) (counted : Counted) : Type 0 where
+  pub planned : IsPlanned holds options plan
+  pub counts : HasCounts holds options (goal_in plan) input counted
+
+-- After Ok the counts were written in the form that is asked for, and the status is 1 where fewer of a hundred bins that the plan wants
+-- are covered than have to be. What each fault means, and what was written then: nothing but where the writer failed.
 abbrev pub CoverOutcome : (List ℕ → List ℕ → Type 0) → CoverOptions → List ℕ → Option (List ℕ) → Option (List ℕ) → Result ℕ CheckFault → Type 0
 CoverOutcome holds options input old new (Ok status) =
-    (counted : Counted) × HasCounts holds options input counted × IsCoverStatus options.require (percent_of options.goal (count_in counted.covered)) status × Appends old new (written_of options counted)
-CoverOutcome holds options input old new (Err Page) = (counted : Counted) × HasCounts holds options input counted × IsTrue (is_some options.html)
-CoverOutcome holds options input old new (Err (Write fault)) = (counted : Counted) × HasCounts holds options input counted × AppendsFront old new (written_of options counted)
+    (plan : PlanValue) × (counted : Counted) × HasPlanned holds options input plan counted × IsCoverStatus options.require (percent_of (goal_in plan) (count_in counted.covered)) status
+    × Appends old new (written_of options plan counted)
+CoverOutcome holds options input old new (Err Page) = (plan : PlanValue) × (counted : Counted) × HasPlanned holds options input plan counted × IsTrue (is_some options.html)
+CoverOutcome holds options input old new (Err (Write fault)) =
+    (plan : PlanValue) × (counted : Counted) × HasPlanned holds options input plan counted × AppendsFront old new (written_of options plan counted)
+CoverOutcome holds options input old new (Err (Plan fault)) = IsPlanFault holds options.plan fault
 CoverOutcome holds options input old new (Err fault) = AreInputsFault holds options.lines (paths_of options) input fault
 
 -- the page of counts
-abbrev pub IsCoverPage : ℕ → Counted → List ℕ → Type 0
-IsCoverPage goal counted page = (front : List ℕ) × (back : List ℕ) × (page ≡ page_text front (json_of goal counted) back)
+abbrev pub IsCoverPage : PlanValue → Counted → List ℕ → Type 0
+IsCoverPage plan counted page = (front : List ℕ) × (back : List ℕ) × (page ≡ page_text front (json_of plan counted) back)
 
 -- where one was asked for, the page of the counts that were written was put at the path
 abbrev pub IsCoverPut : {P : Type 0} → (List ℕ → List ℕ → Type 0) → (P → List ℕ → List ℕ → Type 0) → CoverOptions → List ℕ → Option (List ℕ) → Option (List ℕ) → P → Type 0
 IsCoverPut holds has_put options input old new pages =
-    IfSome options.html (λ path. (counted : Counted) × (page : List ℕ) × HasCounts holds options input counted × IsCoverPage options.goal counted page
-    × Appends old new (written_of options counted) × has_put pages path.now page)
+    IfSome options.html (λ path. (plan : PlanValue) × (counted : Counted) × (page : List ℕ) × HasPlanned holds options input plan counted × IsCoverPage plan counted page
+    × Appends old new (written_of options plan counted) × has_put pages path.now page)

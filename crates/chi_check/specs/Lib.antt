@@ -6,6 +6,7 @@ pub mod Cover
 pub mod Limits
 pub mod OptionValues
 pub mod Pages
+pub mod Planned
 pub mod ProgramOutcome
 pub mod Saving
 pub mod Searched

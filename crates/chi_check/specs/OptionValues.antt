@@ -147,6 +147,7 @@ pub record HasWatchOptions (found : List Row) (options : WatchingOptions) : Type
 -- and those of `cover`
 pub record HasCoverOptions (found : List Row) (options : CoverOptions) : Type 0 where
   pub goal : IsNumberOr 1 (one_of (codes "goal") found) options.goal
+  pub plan : option_map (λ s. s.now) options.plan ≡ first_of (codes "plan") found
   pub require : IsNumberOr 0 (one_of (codes "require") found) options.require
   pub lines : options.lines ≡ lines_asked found
   pub format : options.format ≡ answer_format found

@@ -65,12 +65,7 @@ WatchOutcome options input old new (Err (check_fault.Input source_fault.Memory))
 WatchOutcome options input old new (Err (check_fault.Write fault)) =
     ((watched : Watched) × IsWatched options.format input options.keep_going options.around watched × AppendsFront old new (watched_text options watched))
     ⊎ ((found : List FoundGranule) × All (IsFoundBy options.format input options.around) found × AppendsFront old new (flat_map (found_text options.answer) found))
-WatchOutcome options input old new (Err (check_fault.Input source_fault.Read)) = ⊥
-WatchOutcome options input old new (Err (check_fault.Input source_fault.TooLong)) = ⊥
-WatchOutcome options input old new (Err (check_fault.Input (source_fault.Trace fault))) = ⊥
-WatchOutcome options input old new (Err (check_fault.File place fault)) = ⊥
-WatchOutcome options input old new (Err (check_fault.Untold addr)) = ⊥
-WatchOutcome options input old new (Err check_fault.Page) = ⊥
+WatchOutcome options input old new (Err fault) = ⊥
 
 -- at least so many states were looked at, where that was known of those before, which were for a verdict
 abbrev pub WatchedFor : {P : Type 0} → (P → ℕ → Type 0) → (Search → P → ℕ → Type 0) → P → P → ℕ → Type 0

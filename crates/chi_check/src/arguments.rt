@@ -47,6 +47,7 @@ fn file_at_fault<'a>(task: &Task<'a>, fault: &CheckFault) -> Option<&'a str> {
     match (task, fault) {
         (Task::Explain(_, file), CheckFault::Input(_)) => *file,
         (Task::Watch(_, file), CheckFault::Input(_) | CheckFault::Unfinished(_)) => *file,
+        (Task::Cover(options), CheckFault::Plan(_)) => options.plan,
         (Task::Cover(options), CheckFault::File { place, .. }) => options
             .files
             .get(*place)

@@ -1,8 +1,9 @@
 //! Why a trace is not answered, and with which status.
 
 ghost use Rattle.std.specs.Prelude.{◌≡◌};
-ghost use Rattle.chi_check.specs.CheckStatus.{lines_status, source_status, status_of};
+ghost use Rattle.chi_check.specs.CheckStatus.{lines_status, plan_status, source_status, status_of};
 
+use chi_plan::PlanFault;
 use chi_program::ProgramFault;
 use chi_reading::TraceFault;
 use chi_script::WriteFault;
@@ -30,10 +31,26 @@ pub enum SourceFault {
     Events(LinesFault),
 }
 
+/// Why there is no plan.
+///
+/// - `Read`: the reader answered a fault, which may also be that it was interrupted.
+/// - `TooLong`: the file has more than 536,870,912 bytes.
+/// - `Refused`: the plan was refused, or there was no memory for it.
+#[derive(Debug, Drop, Error)]
+pub enum PlanFileFault {
+    #[error("input could not be read")]
+    Read,
+    #[error("plan is over 536870912 bytes")]
+    TooLong,
+    #[error(transparent)]
+    Refused(PlanFault),
+}
+
 /// Why no whole answer was written.
 ///
 /// - `Input`: there is nothing to write of the input, or of what the inputs hold together.
 /// - `File`: the file at this place among those that were named, counted from 0, was not counted. Up to here nothing is written.
+/// - `Plan`: the plan of a count was not read, or refused. Up to here nothing is written.
 /// - `Untold`: neither an operation nor a word of the granule that is asked for is told. Up to here nothing is written.
 /// - `Page`: the page was not written whole. Up to here nothing else is written.
 /// - `Unfinished`: a line of events or flits was refused, or not read. The granules that were found by then are written.
@@ -46,6 +63,8 @@ pub enum CheckFault {
     Input(SourceFault),
     #[error("{fault}")]
     File { place: usize, fault: SourceFault },
+    #[error(transparent)]
+    Plan(PlanFileFault),
     #[error("no operation and no word is told of the granule at {addr}, a decimal number")]
     Untold { addr: u64 },
     #[error("page could not be written")]
@@ -86,6 +105,17 @@ fn source_status(fault: &SourceFault) -> u8
     }
 }
 
+// The status of a fault of a plan.
+fn plan_status(fault: &PlanFileFault) -> u8
+    ensures { result ≡ plan_status fault.now }
+{
+    match fault {
+        PlanFileFault::Read => 5,
+        PlanFileFault::Refused(PlanFault::Memory) => 4,
+        _ => 3,
+    }
+}
+
 impl ProgramFault for CheckFault {
     ghost status_of = { status_of };
 
@@ -93,6 +123,7 @@ impl ProgramFault for CheckFault {
         match self {
             CheckFault::Input(fault) => source_status(fault),
             CheckFault::File { place: _, fault } => source_status(fault),
+            CheckFault::Plan(fault) => plan_status(fault),
             CheckFault::Untold { addr: _ } => 3,
             CheckFault::Page => 5,
             CheckFault::Unfinished(fault) => lines_status(fault),

@@ -3,6 +3,7 @@
 ghost use Rattle.std.specs.Prelude.{◌≡◌, ◌<◌, ◌≤◌, [], ◌∷◌, None, Some, IfErr, IfOk, IfSome, OnOk};
 ghost use Rattle.chi_cover.specs.declared.bin.Bin.{Bin};
 ghost use Rattle.chi_cover.specs.Counts.{count_in};
+ghost use Rattle.chi_cover.specs.Plan.{goal_in};
 ghost use Rattle.chi_cover.specs.Refusals.{refused_in};
 ghost use Rattle.chi_trace.specs.Explains.{IsTrace};
 ghost use Rattle.chi_fields.specs.declared.refusal.Refusal.{Refusal};
@@ -12,7 +13,7 @@ use crate::check::read_bytes;
 use crate::fault::{CheckFault, SourceFault};
 use crate::options::CoverOptions;
 use crate::sources::Sources;
-use chi_cover::{Covered, Refusals};
+use chi_cover::{Covered, Plan, Refusals};
 use chi_fields::Refusal;
 use chi_json::InputFault;
 use chi_reading::read_trace;
@@ -51,15 +52,15 @@ fn add_told(
     counted: &mut Counted,
     ops: &[Operation],
     refusals: &[Refusal],
-    goal: u64,
+    plan: &Plan,
 ) -> Result<(), AllocError>
     requires { IsTrace ops.now }
-    ensures { OnOk result (AddsTold goal ops.now refusals.now counted.old counted.new) }
+    ensures { OnOk result (AddsTold (goal_in plan.now) ops.now refusals.now counted.old counted.new) }
 {
-    let before = counted.covered.covered(goal) as u64;
+    let before = counted.covered.covered(plan) as u64;
     counted.covered.add(alloc, ops)?;
     counted.refusals.add(refusals);
-    let after = counted.covered.covered(goal) as u64;
+    let after = counted.covered.covered(plan) as u64;
     counted.added.push(after.saturating_sub(before))?;
     Ok(())
 }
@@ -69,9 +70,9 @@ fn add_trace(
     alloc: Global,
     counted: &mut Counted,
     input: &[u8],
-    goal: u64,
+    plan: &Plan,
 ) -> Result<(), SourceFault>
-    ensures added { OnOk result (Adds goal None input.now counted.old counted.new) }
+    ensures added { OnOk result (Adds (goal_in plan.now) None input.now counted.old counted.new) }
     ensures fault { IfErr result (IsTraceFault None input.now) }
 {
     let recorded = match read_trace(alloc, input) {
@@ -79,7 +80,7 @@ fn add_trace(
         Err(fault) => return Err(SourceFault::Trace(fault)),
     };
     let ops = recorded.trace().operations();
-    match add_told(alloc, counted, ops, recorded.refusals(), goal) {
+    match add_told(alloc, counted, ops, recorded.refusals(), plan) {
         Ok(()) => Ok(()),
         Err(_) => Err(SourceFault::Memory),
     }
@@ -91,9 +92,9 @@ fn add_lines(
     counted: &mut Counted,
     input: &[u8],
     format: LineFormat,
-    goal: u64,
+    plan: &Plan,
 ) -> Result<(), SourceFault>
-    ensures added { OnOk result (Adds goal (Some format) input.now counted.old counted.new) }
+    ensures added { OnOk result (Adds (goal_in plan.now) (Some format) input.now counted.old counted.new) }
     ensures fault { IfErr result (IsTraceFault (Some format) input.now) }
 {
     let mut lines = input;
@@ -101,7 +102,7 @@ fn add_lines(
         Ok(told) => told,
         Err(fault) => return Err(SourceFault::Events(fault)),
     };
-    match add_told(alloc, counted, &told.operations, &told.refusals, goal) {
+    match add_told(alloc, counted, &told.operations, &told.refusals, plan) {
         Ok(()) => Ok(()),
         Err(_) => Err(SourceFault::Memory),
     }
@@ -113,13 +114,14 @@ fn add_input(
     counted: &mut Counted,
     input: &[u8],
     options: &CoverOptions<'_>,
+    plan: &Plan,
 ) -> Result<(), SourceFault>
-    ensures added { OnOk result (Adds options.now.goal options.now.lines input.now counted.old counted.new) }
+    ensures added { OnOk result (Adds (goal_in plan.now) options.now.lines input.now counted.old counted.new) }
     ensures fault { IfErr result (IsTraceFault options.now.lines input.now) }
 {
     match options.lines {
-        Some(format) => add_lines(alloc, counted, input, format, options.goal),
-        None => add_trace(alloc, counted, input, options.goal),
+        Some(format) => add_lines(alloc, counted, input, format, plan),
+        None => add_trace(alloc, counted, input, plan),
     }
 }
 
@@ -129,9 +131,10 @@ fn add_file<S: Sources>(
     counted: &mut Counted,
     path: &str,
     options: &CoverOptions<'_>,
+    plan: &Plan,
     sources: &S,
 ) -> Result<(), SourceFault>
-    ensures added { OnOk result (AddsFile (S.holds sources.now) options.now.goal options.now.lines path.now counted.old counted.new) }
+    ensures added { OnOk result (AddsFile (S.holds sources.now) (goal_in plan.now) options.now.lines path.now counted.old counted.new) }
     ensures fault { IfErr result (IsFileFault (S.holds sources.now) options.now.lines path.now) }
 {
     let input = match sources.read_file(alloc, path) {
@@ -140,23 +143,24 @@ fn add_file<S: Sources>(
         Err(InputFault::TooLong) => return Err(SourceFault::TooLong),
         Err(InputFault::Memory) => return Err(SourceFault::Memory),
     };
-    add_input(alloc, counted, &input, options)
+    add_input(alloc, counted, &input, options, plan)
 }
 
 // What these files tell, counted.
 fn files_counted<S: Sources>(
     alloc: Global,
     options: &CoverOptions<'_>,
+    plan: &Plan,
     sources: &S,
 ) -> Result<Counted, CheckFault>
-    ensures counts { IfOk result (λ counted. AreOfFiles (S.holds sources.now) options.now.goal options.now.lines (paths_of options.now) counted) }
+    ensures counts { IfOk result (λ counted. AreOfFiles (S.holds sources.now) (goal_in plan.now) options.now.lines (paths_of options.now) counted) }
     ensures fault { IfErr result (AreFilesFault (S.holds sources.now) options.now.lines (paths_of options.now)) }
 {
     let Ok(mut counted) = Counted::none(alloc) else {
         return Err(CheckFault::Input(SourceFault::Memory));
     };
     for (place, path) in options.files.iter().enumerate() {
-        match add_file(alloc, &mut counted, path, options, sources) {
+        match add_file(alloc, &mut counted, path, options, plan, sources) {
             Ok(()) => {}
             Err(fault) => return Err(CheckFault::File { place, fault }),
         }
@@ -169,15 +173,16 @@ fn input_counted<R: Read>(
     alloc: Global,
     from: &mut R,
     options: &CoverOptions<'_>,
+    plan: &Plan,
 ) -> Result<Counted, CheckFault>
-    ensures counts { IfOk result (λ counted. IfSome (R.remaining from.old) (λ input. AreCounted options.now.goal options.now.lines (input ∷ []) counted)) }
+    ensures counts { IfOk result (λ counted. IfSome (R.remaining from.old) (λ input. AreCounted (goal_in plan.now) options.now.lines (input ∷ []) counted)) }
     ensures fault { IfErr result (λ fault. IfSome (R.remaining from.old) (λ input. IsInputFault options.now.lines input fault)) }
 {
     let input = read_bytes(alloc, from)?;
     let Ok(mut counted) = Counted::none(alloc) else {
         return Err(CheckFault::Input(SourceFault::Memory));
     };
-    match add_input(alloc, &mut counted, &input, options) {
+    match add_input(alloc, &mut counted, &input, options, plan) {
         Ok(()) => Ok(counted),
         Err(fault) => Err(CheckFault::Input(fault)),
     }
@@ -188,14 +193,15 @@ pub(crate) fn inputs_counted<R: Read, S: Sources>(
     alloc: Global,
     from: &mut R,
     options: &CoverOptions<'_>,
+    plan: &Plan,
     sources: &S,
 ) -> Result<Counted, CheckFault>
-    ensures counts { IfOk result (λ counted. IfSome (R.remaining from.old) (λ input. HasCounts (S.holds sources.now) options.now input counted)) }
+    ensures counts { IfOk result (λ counted. IfSome (R.remaining from.old) (λ input. HasCounts (S.holds sources.now) options.now (goal_in plan.now) input counted)) }
     ensures fault { IfErr result (λ fault. IfSome (R.remaining from.old) (λ input. AreInputsFault (S.holds sources.now) options.now.lines (paths_of options.now) input fault)) }
 {
     if options.files.is_empty() {
-        input_counted(alloc, from, options)
+        input_counted(alloc, from, options, plan)
     } else {
-        files_counted(alloc, options, sources)
+        files_counted(alloc, options, plan, sources)
     }
 }

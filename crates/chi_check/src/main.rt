@@ -16,6 +16,7 @@ mod option_values;
 mod options;
 mod page;
 mod pages;
+mod plan;
 mod progress_line;
 mod recorded;
 mod save;

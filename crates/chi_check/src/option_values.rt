@@ -228,6 +228,7 @@ pub(crate) fn cover_options<'a>(
 {
     Ok(CoverOptions {
         goal: number_or(matches, "goal", GOAL),
+        plan: text_given(matches, "plan"),
         require: number_or(matches, "require", REQUIRE),
         lines: lines_asked(matches),
         format: answer_format(matches),

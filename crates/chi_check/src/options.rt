@@ -40,13 +40,13 @@ pub struct WatchingOptions<'a> {
     pub html: Option<&'a str>,
 }
 
-/// What is counted, and how. `goal` is how many operations a bin has to count to be covered, and `require` how many of a hundred bins
-/// have to be. With `lines` the inputs
-/// are lines that tell this, and no traces. `format` is the form in which the counts are written. `files` are the paths of the
+/// What is counted, and how. `goal` is how many operations a bin has to count to be covered, where `plan`, the path of a file of rules,
+/// says no other, and `require` how many of a hundred bins have to be. With `lines` the inputs are lines that tell this, and no traces. `format` is the form in which the counts are written. `files` are the paths of the
 /// inputs; where there is none it is the standard input. `html` is the path of a file that is to be the page of the counts.
 #[derive(Drop)]
 pub struct CoverOptions<'a> {
     pub goal: u64,
+    pub plan: Option<&'a str>,
     pub require: u64,
     pub lines: Option<LineFormat>,
     pub format: AnswerFormat,

@@ -145,11 +145,16 @@ const WATCH: [NamedOption<'static>; 14] = [
 ];
 
 // The options of `cover`, and the files that are counted.
-const COVER: [NamedOption<'static>; 9] = [
+const COVER: [NamedOption<'static>; 10] = [
     NamedOption {
         name: "goal",
         takes: Takes::NumberOr("N", "1"),
         help: "Operations that a bin has to count to be covered",
+    },
+    NamedOption {
+        name: "plan",
+        takes: Takes::Text("FILE"),
+        help: "Goals of single bins, and bins that are excluded, by the rules of this file",
     },
     NamedOption {
         name: "require",

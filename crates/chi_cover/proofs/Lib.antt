@@ -8,6 +8,7 @@ pub mod Lists
 pub mod Numbered
 pub mod Reasons
 pub mod SameBins
+pub mod Stars
 pub mod StillKept
 pub mod Sums
 pub mod Traced

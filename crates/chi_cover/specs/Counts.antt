@@ -1,5 +1,5 @@
 -- how many operations of a trace each bin counts
-use Rattle.std.specs.Prelude.{◌≡◌, ℕ, ◌+◌, ◌-◌, ◌*◌, ◌/◌, ◌^◌, ◌==◌, nat_le, List, ◌++◌, Contains, count_by, flat_map, length, min, slice_index}
+use Rattle.std.specs.Prelude.{◌≡◌, ℕ, ◌+◌, ◌-◌, ◌*◌, ◌/◌, ◌^◌, ◌==◌, nat_le, Bool, false, if◌then◌else◌, List, ◌++◌, Contains, count_by, flat_map, is_some, length, min, slice_index, Option, None, Some}
 use Rattle.std.specs.List.{range_with_len}
 use Rattle.chi_trace.specs.declared.operation.Operation.{Operation}
 use Rattle.chi_trace.specs.Explains.{at}
@@ -34,10 +34,19 @@ count_in counts bin = slice_index counts (number_of bin)
 abbrev pub IsAdded : List Operation → List ℕ → List ℕ → Type 0
 IsAdded trace old new = (bin : Bin) → Contains all_bins bin → count_in new bin ≡ min (count_in old bin + count_of trace bin) most
 
--- how many of these bins have counted so many operations
-abbrev pub covered_of : ℕ → (Bin → ℕ) → List Bin → ℕ
-covered_of goal counts bins = count_by (λ bin. nat_le goal (counts bin)) bins
+-- a bin has counted as many operations as its goal; one that is excluded has none
+abbrev pub is_covered : Option ℕ → ℕ → Bool
+is_covered None count = false
+is_covered (Some goal) count = nat_le goal count
 
--- how many of a hundred that is, rounded down
-abbrev pub percent_of : ℕ → (Bin → ℕ) → ℕ
-percent_of goal counts = covered_of goal counts all_bins * 100 / 1410
+-- how many of these bins are covered
+abbrev pub covered_of : (Bin → Option ℕ) → (Bin → ℕ) → List Bin → ℕ
+covered_of goals counts bins = count_by (λ bin. is_covered (goals bin) (counts bin)) bins
+
+-- how many of these bins have a goal
+abbrev pub wanted_of : (Bin → Option ℕ) → List Bin → ℕ
+wanted_of goals bins = count_by (λ bin. is_some (goals bin)) bins
+
+-- how many of a hundred bins with a goal are covered, rounded down; of none all are
+abbrev pub percent_of : (Bin → Option ℕ) → (Bin → ℕ) → ℕ
+percent_of goals counts = if wanted_of goals all_bins == 0 then 100 else covered_of goals counts all_bins * 100 / wanted_of goals all_bins

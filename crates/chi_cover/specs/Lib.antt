@@ -4,10 +4,14 @@ pub mod Bins
 pub mod Counts
 pub mod Json
 pub mod Last
+pub mod Names
 pub mod Numbers
 pub mod Open
 pub mod Operations
 pub mod Page
+pub mod Plan
+pub mod PlanJson
+pub mod PlanTexts
 pub mod Refusals
 pub mod Sequences
 pub mod Texts

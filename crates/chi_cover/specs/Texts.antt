@@ -1,67 +1,24 @@
 -- the table of a coverage, as a text
-use Rattle.std.specs.Prelude.{ℕ, ◌==◌, Bool, true, false, if◌then◌else◌, nat_le, List, [], ◌++◌, codes, decimal, flat_map, length, Some}
+use Rattle.std.specs.Prelude.{ℕ, ◌==◌, Bool, true, false, if◌then◌else◌, List, [], ◌++◌, codes, decimal, flat_map, Option, Some}
 use Rattle.chi_fields.specs.Opcode.{all_ops, kind_name}
 use Rattle.chi_fields.specs.declared.kind.Kind.{Kind}
 use Rattle.chi_fields.specs.declared.kind.Kind.TheVariants.{Load}
 use Rattle.chi_fields.specs.declared.kind.Op.{Op}
-use Rattle.chi_fields.specs.declared.kind.Op.TheVariants.{Add}
 use Rattle.chi_cover.specs.declared.bin.Bin.{Bin}
-use Rattle.chi_cover.specs.declared.bin.Bin.TheVariants.{Operand, Comparison, Enables, Kept, ChangedSign, Wrapped, Open, Overlap, Requester, Sequence, LineSequence}
-use Rattle.chi_cover.specs.declared.bin.Depth.{Depth}
-use Rattle.chi_cover.specs.declared.bin.Depth.TheVariants.{One, Two, UpToFour, UpToEight, More}
-use Rattle.chi_cover.specs.declared.bin.Enabled.{Enabled}
+use Rattle.chi_cover.specs.declared.bin.Bin.TheVariants.{Operand, Comparison, Enables, Kept, ChangedSign, Wrapped}
 use Rattle.chi_cover.specs.declared.bin.Enabled.TheVariants.{NoLane, SomeLanes, AllLanes}
-use Rattle.chi_cover.specs.declared.bin.Transaction.{Transaction}
-use Rattle.chi_cover.specs.declared.bin.Transaction.TheVariants.{ReadNoSnp, WriteNoSnpPtl, AtomicStore, AtomicLoad, AtomicSwap, AtomicCompare}
+use Rattle.chi_cover.specs.declared.bin.Transaction.TheVariants.{WriteNoSnpPtl, AtomicCompare}
 use Rattle.chi_cover.specs.Bins.{all_bins, all_kinds, comparison_bins, enables_bins, lanes_of, lengths, line_sequence_bins, open_bins, operation_bins, overlap_bins, requester_bins, result_bins, sequence_bins}
-use Rattle.chi_cover.specs.Counts.{covered_of, percent_of}
+use Rattle.chi_cover.specs.Counts.{covered_of, percent_of, wanted_of}
 use Rattle.chi_cover.specs.Operations.{is_add}
+use Rattle.chi_cover.specs.Names.{order_text, row_name}
+use Rattle.chi_cover.specs.Plan.{PlanValue, goal_in}
+use Rattle.chi_cover.specs.PlanTexts.{bin_line, rules_text}
 
--- names
-abbrev pub depth_text : Depth → List ℕ
-depth_text One = codes "open 1"
-depth_text Two = codes "open 2"
-depth_text UpToFour = codes "open 3 to 4"
-depth_text UpToEight = codes "open 5 to 8"
-depth_text More = codes "open more than 8"
-
-abbrev pub enabled_text : Enabled → List ℕ
-enabled_text NoLane = codes "none"
-enabled_text SomeLanes = codes "some"
-enabled_text AllLanes = codes "all"
-
-abbrev pub transaction_text : Transaction → List ℕ
-transaction_text ReadNoSnp = codes "ReadNoSnp"
-transaction_text WriteNoSnpPtl = codes "WriteNoSnpPtl"
-transaction_text AtomicStore = codes "AtomicStore"
-transaction_text AtomicLoad = codes "AtomicLoad"
-transaction_text AtomicSwap = codes "AtomicSwap"
-transaction_text AtomicCompare = codes "AtomicCompare"
-
-abbrev pub half_text : Bool → List ℕ
-half_text upper = if upper then codes "upper" else codes "lower"
-
-abbrev pub matched_text : Bool → List ℕ
-matched_text matched = if matched then codes "matched" else codes "failed"
-
-abbrev pub order_text : Bool → List ℕ
-order_text endian = if endian then codes "big" else codes "little"
-
-abbrev pub bytes_text : ℕ → List ℕ
-bytes_text len = if len == 1 then codes "1 byte" else decimal len ++ codes " bytes"
-
-abbrev pub overlap_text : Transaction → Transaction → List ℕ
-overlap_text earlier later = transaction_text later ++ (codes " while " ++ (transaction_text earlier ++ codes " was open"))
-
-abbrev pub sequence_text : Transaction → Transaction → List ℕ
-sequence_text earlier later = transaction_text later ++ (codes " after " ++ transaction_text earlier)
-
-abbrev pub requester_text : Bool → List ℕ
-requester_text same = if same then codes "of the same requester" else codes "of another requester"
-
--- the head of a group: its name, and how many of its bins have counted as many operations as the goal
-unfoldable pub head_text : ℕ → (Bin → ℕ) → List ℕ → List Bin → List ℕ
-head_text goal counts name bins = name ++ (codes ": " ++ (decimal (covered_of goal counts bins) ++ (codes " of " ++ (decimal (length bins) ++ codes "\n"))))
+-- the head of a group: its name, and how many of its bins that have a goal are covered
+unfoldable pub head_text : (Bin → Option ℕ) → (Bin → ℕ) → List ℕ → List Bin → List ℕ
+head_text goals counts name bins =
+    name ++ (codes ": " ++ (decimal (covered_of goals counts bins) ++ (codes " of " ++ (decimal (wanted_of goals bins) ++ codes "\n"))))
 
 -- the counts of a kind, a byte order and a length, by the lane
 abbrev pub lane_text : (Bin → ℕ) → Kind → Bool → ℕ → ℕ → List ℕ
@@ -109,67 +66,39 @@ result_row counts op len =
 unfoldable pub op_rows : (Bin → ℕ) → Op → List ℕ
 op_rows counts op = flat_map (result_row counts op) lengths
 
--- the name of a bin by itself
-abbrev pub bin_name : Bin → List ℕ
-bin_name (Operand kind endian len lane) =
-    kind_name (Some kind) ++ (codes ", " ++ (order_text endian ++ (codes "-endian, " ++ (bytes_text len ++ (codes ", lane " ++ decimal lane)))))
-bin_name (Comparison len upper matched) =
-    codes "AtomicCompare, " ++ (bytes_text len ++ (codes ", compare value in the " ++ (half_text upper ++ (codes " half, " ++ matched_text matched))))
-bin_name (Enables len enabled) = codes "WriteNoSnpPtl, " ++ (bytes_text len ++ (codes ", byte enables: " ++ enabled_text enabled))
-bin_name (Kept op len) = kind_name (Some (Load op)) ++ (codes ", " ++ (bytes_text len ++ codes ", kept"))
-bin_name (ChangedSign op len) = kind_name (Some (Load op)) ++ (codes ", " ++ (bytes_text len ++ codes ", changed sign"))
-bin_name (Wrapped len) = kind_name (Some (Load Add)) ++ (codes ", " ++ (bytes_text len ++ codes ", wrapped"))
-bin_name (Open depth) = depth_text depth
-bin_name (Overlap earlier later) = overlap_text earlier later
-bin_name (Requester same) = codes "an overlap with an earlier operation " ++ requester_text same
-bin_name (Sequence earlier later) = sequence_text earlier later
-bin_name (LineSequence earlier later) = sequence_text earlier later ++ codes " on the line"
-
 -- the row of one bin of traffic or of sequences, which stands below the head of its group
-abbrev pub row_name : Bin → List ℕ
-row_name (Requester same) = requester_text same
-row_name bin = bin_name bin
-
 unfoldable pub traffic_row : (Bin → ℕ) → Bin → List ℕ
 traffic_row counts bin = row_name bin ++ (codes ": " ++ (decimal (counts bin) ++ codes "\n"))
 
--- how many operations a missing bin has counted, where it has some, of how many it has to
-abbrev pub left_text : ℕ → ℕ → List ℕ
-left_text goal count = if count == 0 then [] else codes ": " ++ (decimal count ++ (codes " of " ++ decimal goal))
-
--- a bin that has counted fewer operations than the goal
-unfoldable pub missing_line : ℕ → (Bin → ℕ) → Bin → List ℕ
-missing_line goal counts bin =
-    if nat_le goal (counts bin) then [] else codes "missing: " ++ (bin_name bin ++ (left_text goal (counts bin) ++ codes "\n"))
-
--- the goal, where it is another than one operation
+-- the goal of all bins, where it is another than one operation
 abbrev pub goal_text : ℕ → List ℕ
 goal_text goal = if goal == 1 then [] else codes ", each at least " ++ decimal goal
 
--- how many bins have counted as many operations as the goal
-unfoldable pub covered_line : ℕ → (Bin → ℕ) → List ℕ
-covered_line goal counts =
-    codes "covered: " ++ (decimal (covered_of goal counts all_bins) ++ (codes " of 1410 (" ++ (decimal (percent_of goal counts) ++ (codes "%)"
-    ++ (goal_text goal ++ codes "\n")))))
+-- how many bins that have a goal are covered, and the goal of all
+unfoldable pub covered_line : PlanValue → (Bin → ℕ) → List ℕ
+covered_line plan counts =
+    codes "covered: " ++ (decimal (covered_of (goal_in plan) counts all_bins) ++ (codes " of " ++ (decimal (wanted_of (goal_in plan) all_bins) ++ (codes " ("
+    ++ (decimal (percent_of (goal_in plan) counts) ++ (codes "%)" ++ (goal_text plan.goal ++ codes "\n")))))))
 
 -- the groups of bins of operations, and those of traffic and of sequences
-unfoldable pub operations_text : ℕ → (Bin → ℕ) → List ℕ
-operations_text goal counts =
-    head_text goal counts (codes "operations") operation_bins ++ (flat_map (kind_rows counts) all_kinds
-    ++ (head_text goal counts (codes "compares") comparison_bins ++ (flat_map (comparison_row counts) lengths
-    ++ (head_text goal counts (codes "writes") enables_bins ++ (flat_map (enables_row counts) lengths
-    ++ (head_text goal counts (codes "results") result_bins ++ flat_map (op_rows counts) all_ops))))))
+unfoldable pub operations_text : (Bin → Option ℕ) → (Bin → ℕ) → List ℕ
+operations_text goals counts =
+    head_text goals counts (codes "operations") operation_bins ++ (flat_map (kind_rows counts) all_kinds
+    ++ (head_text goals counts (codes "compares") comparison_bins ++ (flat_map (comparison_row counts) lengths
+    ++ (head_text goals counts (codes "writes") enables_bins ++ (flat_map (enables_row counts) lengths
+    ++ (head_text goals counts (codes "results") result_bins ++ flat_map (op_rows counts) all_ops))))))
 
-abbrev pub group_text : ℕ → (Bin → ℕ) → List ℕ → List Bin → List ℕ
-group_text goal counts name bins = head_text goal counts name bins ++ flat_map (traffic_row counts) bins
+abbrev pub group_text : (Bin → Option ℕ) → (Bin → ℕ) → List ℕ → List Bin → List ℕ
+group_text goals counts name bins = head_text goals counts name bins ++ flat_map (traffic_row counts) bins
 
-unfoldable pub traffic_text : ℕ → (Bin → ℕ) → List ℕ
-traffic_text goal counts =
-    group_text goal counts (codes "open at once") open_bins ++ (group_text goal counts (codes "overlaps") overlap_bins
-    ++ (group_text goal counts (codes "requesters") requester_bins ++ (group_text goal counts (codes "sequences") sequence_bins
-    ++ group_text goal counts (codes "line sequences") line_sequence_bins)))
+unfoldable pub traffic_text : (Bin → Option ℕ) → (Bin → ℕ) → List ℕ
+traffic_text goals counts =
+    group_text goals counts (codes "open at once") open_bins ++ (group_text goals counts (codes "overlaps") overlap_bins
+    ++ (group_text goals counts (codes "requesters") requester_bins ++ (group_text goals counts (codes "sequences") sequence_bins
+    ++ group_text goals counts (codes "line sequences") line_sequence_bins)))
 
--- the table: the groups, how many bins have counted as many operations as the goal, and those that have not
-unfoldable pub table_text : ℕ → (Bin → ℕ) → List ℕ
-table_text goal counts =
-    operations_text goal counts ++ (traffic_text goal counts ++ (covered_line goal counts ++ flat_map (missing_line goal counts) all_bins))
+-- the table: the groups, how many bins are covered, the rules of the plan, and the bins of which there is more to say
+unfoldable pub table_text : PlanValue → (Bin → ℕ) → List ℕ
+table_text plan counts =
+    operations_text (goal_in plan) counts ++ (traffic_text (goal_in plan) counts ++ (covered_line plan counts ++ (rules_text plan.rules
+    ++ flat_map (bin_line (goal_in plan) counts) all_bins)))

@@ -1,7 +1,7 @@
 //! How many bins each input added, as JSON.
 
 ghost use Rattle.std.specs.Prelude.{◌≡◌, ◌++◌, OnOk, flat_map};
-ghost use Rattle.chi_cover.specs.Json.{added_json, further, number_json};
+ghost use Rattle.chi_cover.specs.Json.{added_json, further, number_json, numbers_json};
 
 use chi_text::Part::{Number, Text};
 use chi_text::add_parts;
@@ -33,14 +33,24 @@ fn add_further_numbers(to: &mut Vec<u8>, numbers: &[u64]) -> Result<(), AllocErr
     Ok(())
 }
 
-/// How many bins each input added, one after the other.
-#[tactic(auto, unfolding(crate::specs::Json::added_json))]
-pub(crate) fn add_added(to: &mut Vec<u8>, added: &[u64]) -> Result<(), AllocError>
-    ensures { OnOk result (to.new.items ≡ to.old.items ++ added_json added.now) }
+/// Numbers, one after the other.
+#[tactic(auto, unfolding(crate::specs::Json::numbers_json))]
+fn add_numbers(to: &mut Vec<u8>, numbers: &[u64]) -> Result<(), AllocError>
+    ensures { OnOk result (to.new.items ≡ to.old.items ++ numbers_json numbers.now) }
 {
-    let Some((first, rest)) = added.split_first() else {
+    let Some((first, rest)) = numbers.split_first() else {
         return Ok(());
     };
     add_number(to, *first)?;
     add_further_numbers(to, rest)
+}
+
+/// The member that says how many bins each input added, after another one.
+#[tactic(auto, unfolding(crate::specs::Json::added_json))]
+pub(crate) fn add_added(to: &mut Vec<u8>, added: &[u64]) -> Result<(), AllocError>
+    ensures { OnOk result (to.new.items ≡ to.old.items ++ added_json added.now) }
+{
+    add_parts(to, &[Text(",\"added\":[")])?;
+    add_numbers(to, added)?;
+    add_parts(to, &[Text("]")])
 }

@@ -36,7 +36,7 @@ pub enum Transaction {
 }
 
 impl Transaction {
-    ghost use Rattle.chi_cover.specs.Texts.{transaction_text};
+    ghost use Rattle.chi_cover.specs.Names.{transaction_text};
 
     /// The name of the transaction, as `AtomicLoad`.
     pub(crate) fn name(self) -> &'static str

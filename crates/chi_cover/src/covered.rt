@@ -1,25 +1,27 @@
 //! A table of coverage: how many operations each bin has counted.
 
-ghost use Rattle.std.specs.Prelude.{◌≡◌, ◌≤◌, IfOk, OnErr, OnOk, count_by, length, nat_le};
+ghost use Rattle.std.specs.Prelude.{◌≡◌, ◌≤◌, IfOk, OnErr, OnOk, length};
 ghost use Rattle.chi_trace.specs.Explains.{IsTrace};
 ghost use Rattle.chi_cover.specs.Bins.{all_bins};
-ghost use Rattle.chi_cover.specs.Counts.{IsAdded, count_in, covered_of, percent_of};
+ghost use Rattle.chi_cover.specs.Counts.{IsAdded, count_in, covered_of, is_covered, percent_of};
+ghost use Rattle.chi_cover.specs.Plan.{goal_in};
 
 use crate::bin::Bin;
 use crate::measured::add_operations;
 use crate::number::number;
+use crate::plan::{BINS, Plan};
 use chi_trace::Operation;
 use std::alloc::{AllocError, Global};
 use std::marker::Model;
 
-/// How many bins there are.
-const BINS: usize = 1410;
-
-/// How many of these counts reach a goal.
-fn reached(counts: &[u64], goal: u64) -> usize
-    ensures { result ≡ count_by (nat_le goal) counts.now }
+/// Whether a bin that has counted so many operations is covered, by its goal. One that is excluded has none.
+pub(crate) fn is_covered(goal: Option<u64>, count: u64) -> bool
+    ensures { result ≡ is_covered goal count }
 {
-    counts.iter().filter(|count| **count >= goal).count()
+    match goal {
+        Some(goal) => count >= goal,
+        None => false,
+    }
 }
 
 /// How many operations each bin has counted, of the traces that were added. 2^64 - 1 stands for that many and more.
@@ -84,22 +86,29 @@ impl Covered {
         }
     }
 
-    /// How many bins are covered: `goal` is how many operations a bin has to count to be covered, and with 0 each is.
+    /// How many bins are covered: those that have counted as many operations as the plan wants of them.
     ///
     /// ```
-    /// let is_whole = covered.covered(1) == Covered::bins();
+    /// let is_whole = covered.covered(&plan) == plan.wanted();
     /// ```
-    pub fn covered(&self, goal: u64) -> usize
-        ensures value { result ≡ covered_of goal (count_in self.now) all_bins }
+    pub fn covered(&self, plan: &Plan) -> usize
+        ensures value { result ≡ covered_of (goal_in plan.now) (count_in self.now) all_bins }
         ensures most { result ≤ 1410 }
     {
-        reached(&self.counts, goal)
+        let goals = plan.goals();
+        let mut covered = 0;
+        for number in 0..BINS {
+            if is_covered(goals[number], self.counts[number]) {
+                covered += 1;
+            }
+        }
+        covered
     }
 
     /// How many bins there are.
     ///
     /// ```
-    /// let missing = Covered::bins() - covered.covered(1);
+    /// let excluded = Covered::bins() - plan.wanted();
     /// ```
     pub fn bins() -> usize
         ensures { result ≡ length all_bins }
@@ -107,15 +116,17 @@ impl Covered {
         BINS
     }
 
-    /// How many of a hundred bins are covered, rounded down: `goal` is how many operations a bin has to count to be covered, and
-    /// with 0 each is.
+    /// How many of a hundred bins that the plan wants are covered, rounded down; 100 where it wants none.
     ///
     /// ```
-    /// let is_enough = covered.percent(5) >= 90;
+    /// let is_enough = covered.percent(&plan) >= 90;
     /// ```
-    pub fn percent(&self, goal: u64) -> usize
-        ensures { result ≡ percent_of goal (count_in self.now) }
+    pub fn percent(&self, plan: &Plan) -> usize
+        ensures { result ≡ percent_of (goal_in plan.now) (count_in self.now) }
     {
-        self.covered(goal) * 100 / BINS
+        match plan.wanted() {
+            0 => 100,
+            wanted => self.covered(plan) * 100 / wanted,
+        }
     }
 }

@@ -2,7 +2,7 @@
 
 ghost use Rattle.std.specs.Prelude.{◌≡◌, ◌++◌, OnOk, flat_map};
 ghost use Rattle.chi_cover.specs.Counts.{count_in};
-ghost use Rattle.chi_cover.specs.Json.{bin_json, bins_json, cover_json, covered_json, further, group_json, groups_json, reason_json, reasons_json};
+ghost use Rattle.chi_cover.specs.Json.{bin_json, bins_json, cover_json, covered_json, further, group_json, groups_json, own_goal, reason_json, reasons_json};
 ghost use Rattle.chi_cover.specs.Refusals.{refused_in};
 
 use crate::added_json::add_added;
@@ -10,6 +10,8 @@ use crate::bin::Bin;
 use crate::covered::Covered;
 use crate::group::{comparison_bins, enables_bins, operation_bins, result_bins};
 use crate::names::add_bin_name;
+use crate::plan::Plan;
+use crate::plan_json::add_plan;
 use crate::refusals::Refusals;
 use crate::sequence_group::{line_sequence_bins, sequence_bins};
 use crate::traffic_group::{open_bins, overlap_bins, requester_bins};
@@ -18,47 +20,72 @@ use chi_text::Part::{Number, Text};
 use chi_text::add_parts;
 use std::alloc::{AllocError, Global};
 
-/// A bin: its name, and its count.
+/// The goal of a bin, where it is another than that of all.
+fn add_own_goal(to: &mut Vec<u8>, general: u64, goal: Option<u64>) -> Result<(), AllocError>
+    ensures { OnOk result (to.new.items ≡ to.old.items ++ own_goal general goal) }
+{
+    match goal {
+        None => add_parts(to, &[Text(",null")]),
+        Some(goal) if goal == general => Ok(()),
+        Some(goal) => add_parts(to, &[Text(",\""), Number(goal), Text("\"")]),
+    }
+}
+
+/// A bin: its name, its count, and its goal, where it is another than that of all.
 #[tactic(auto, unfolding(crate::specs::Json::bin_json))]
-fn add_bin(to: &mut Vec<u8>, covered: &Covered, bin: Bin) -> Result<(), AllocError>
-    ensures { OnOk result (to.new.items ≡ to.old.items ++ bin_json (count_in covered.now) bin) }
+fn add_bin(to: &mut Vec<u8>, covered: &Covered, plan: &Plan, bin: Bin) -> Result<(), AllocError>
+    ensures { OnOk result (to.new.items ≡ to.old.items ++ bin_json plan.now (count_in covered.now) bin) }
 {
     add_parts(to, &[Text("[\"")])?;
     add_bin_name(to, bin)?;
-    add_parts(
-        to,
-        &[Text("\",\""), Number(covered.count(bin)), Text("\"]")],
-    )
+    add_parts(to, &[Text("\",\""), Number(covered.count(bin)), Text("\"")])?;
+    add_own_goal(to, plan.goal(), plan.goal_of(bin))?;
+    add_parts(to, &[Text("]")])
 }
 
 /// A bin after another one.
-fn add_further_bin(to: &mut Vec<u8>, covered: &Covered, bin: Bin) -> Result<(), AllocError>
-    ensures { OnOk result (to.new.items ≡ to.old.items ++ further (bin_json (count_in covered.now)) bin) }
+fn add_further_bin(
+    to: &mut Vec<u8>,
+    covered: &Covered,
+    plan: &Plan,
+    bin: Bin,
+) -> Result<(), AllocError>
+    ensures { OnOk result (to.new.items ≡ to.old.items ++ further (bin_json plan.now (count_in covered.now)) bin) }
 {
     add_parts(to, &[Text(",")])?;
-    add_bin(to, covered, bin)
+    add_bin(to, covered, plan, bin)
 }
 
 /// Bins after another one.
-fn add_further_bins(to: &mut Vec<u8>, covered: &Covered, bins: &[Bin]) -> Result<(), AllocError>
-    ensures { OnOk result (to.new.items ≡ to.old.items ++ flat_map (further (bin_json (count_in covered.now))) bins.now) }
+fn add_further_bins(
+    to: &mut Vec<u8>,
+    covered: &Covered,
+    plan: &Plan,
+    bins: &[Bin],
+) -> Result<(), AllocError>
+    ensures { OnOk result (to.new.items ≡ to.old.items ++ flat_map (further (bin_json plan.now (count_in covered.now))) bins.now) }
 {
     for bin in bins {
-        add_further_bin(to, covered, *bin)?;
+        add_further_bin(to, covered, plan, *bin)?;
     }
     Ok(())
 }
 
 /// Bins, one after the other.
 #[tactic(auto, unfolding(crate::specs::Json::bins_json))]
-fn add_bins(to: &mut Vec<u8>, covered: &Covered, bins: &[Bin]) -> Result<(), AllocError>
-    ensures { OnOk result (to.new.items ≡ to.old.items ++ bins_json (count_in covered.now) bins.now) }
+fn add_bins(
+    to: &mut Vec<u8>,
+    covered: &Covered,
+    plan: &Plan,
+    bins: &[Bin],
+) -> Result<(), AllocError>
+    ensures { OnOk result (to.new.items ≡ to.old.items ++ bins_json plan.now (count_in covered.now) bins.now) }
 {
     let Some((first, rest)) = bins.split_first() else {
         return Ok(());
     };
-    add_bin(to, covered, *first)?;
-    add_further_bins(to, covered, rest)
+    add_bin(to, covered, plan, *first)?;
+    add_further_bins(to, covered, plan, rest)
 }
 
 /// A group: its name, and its bins.
@@ -66,16 +93,17 @@ fn add_bins(to: &mut Vec<u8>, covered: &Covered, bins: &[Bin]) -> Result<(), All
 fn add_group(
     to: &mut Vec<u8>,
     covered: &Covered,
+    plan: &Plan,
     name: &'static str,
     bins: &[Bin],
 ) -> Result<(), AllocError>
-    ensures { OnOk result (to.new.items ≡ to.old.items ++ group_json (count_in covered.now) (name.now, bins.now)) }
+    ensures { OnOk result (to.new.items ≡ to.old.items ++ group_json plan.now (count_in covered.now) (name.now, bins.now)) }
 {
     add_parts(
         to,
         &[Text("{\"name\":\""), Text(name), Text("\",\"bins\":[")],
     )?;
-    add_bins(to, covered, bins)?;
+    add_bins(to, covered, plan, bins)?;
     add_parts(to, &[Text("]}")])
 }
 
@@ -83,44 +111,58 @@ fn add_group(
 fn add_further_group(
     to: &mut Vec<u8>,
     covered: &Covered,
+    plan: &Plan,
     name: &'static str,
     bins: &[Bin],
 ) -> Result<(), AllocError>
-    ensures { OnOk result (to.new.items ≡ to.old.items ++ further (group_json (count_in covered.now)) (name.now, bins.now)) }
+    ensures { OnOk result (to.new.items ≡ to.old.items ++ further (group_json plan.now (count_in covered.now)) (name.now, bins.now)) }
 {
     add_parts(to, &[Text(",")])?;
-    add_group(to, covered, name, bins)
+    add_group(to, covered, plan, name, bins)
 }
 
 /// The groups.
-fn add_groups(alloc: Global, to: &mut Vec<u8>, covered: &Covered) -> Result<(), AllocError>
-    ensures { OnOk result (to.new.items ≡ to.old.items ++ groups_json (count_in covered.now)) }
+fn add_groups(
+    alloc: Global,
+    to: &mut Vec<u8>,
+    covered: &Covered,
+    plan: &Plan,
+) -> Result<(), AllocError>
+    ensures { OnOk result (to.new.items ≡ to.old.items ++ groups_json plan.now (count_in covered.now)) }
 {
-    add_group(to, covered, "operations", &operation_bins(alloc)?)?;
-    add_further_group(to, covered, "compares", &comparison_bins(alloc)?)?;
-    add_further_group(to, covered, "writes", &enables_bins(alloc)?)?;
-    add_further_group(to, covered, "results", &result_bins(alloc)?)?;
-    add_further_group(to, covered, "open at once", &open_bins(alloc)?)?;
-    add_further_group(to, covered, "overlaps", &overlap_bins(alloc)?)?;
-    add_further_group(to, covered, "requesters", &requester_bins(alloc)?)?;
-    add_further_group(to, covered, "sequences", &sequence_bins(alloc)?)?;
-    add_further_group(to, covered, "line sequences", &line_sequence_bins(alloc)?)
+    add_group(to, covered, plan, "operations", &operation_bins(alloc)?)?;
+    add_further_group(to, covered, plan, "compares", &comparison_bins(alloc)?)?;
+    add_further_group(to, covered, plan, "writes", &enables_bins(alloc)?)?;
+    add_further_group(to, covered, plan, "results", &result_bins(alloc)?)?;
+    add_further_group(to, covered, plan, "open at once", &open_bins(alloc)?)?;
+    add_further_group(to, covered, plan, "overlaps", &overlap_bins(alloc)?)?;
+    add_further_group(to, covered, plan, "requesters", &requester_bins(alloc)?)?;
+    add_further_group(to, covered, plan, "sequences", &sequence_bins(alloc)?)?;
+    add_further_group(
+        to,
+        covered,
+        plan,
+        "line sequences",
+        &line_sequence_bins(alloc)?,
+    )
 }
 
-/// How many bins have counted as many operations as the goal, and the goal.
+/// How many bins are covered, of how many that are not excluded, and the goal of all.
 #[tactic(auto, unfolding(crate::specs::Json::covered_json))]
-fn add_covered(to: &mut Vec<u8>, covered: &Covered, goal: u64) -> Result<(), AllocError>
-    ensures { OnOk result (to.new.items ≡ to.old.items ++ covered_json goal (count_in covered.now)) }
+fn add_covered(to: &mut Vec<u8>, covered: &Covered, plan: &Plan) -> Result<(), AllocError>
+    ensures { OnOk result (to.new.items ≡ to.old.items ++ covered_json plan.now (count_in covered.now)) }
 {
     add_parts(
         to,
         &[
             Text("\"covered\":\""),
-            Number(covered.covered(goal) as u64),
-            Text("\",\"bins\":\"1410\",\"percent\":\""),
-            Number(covered.percent(goal) as u64),
+            Number(covered.covered(plan) as u64),
+            Text("\",\"bins\":\""),
+            Number(plan.wanted() as u64),
+            Text("\",\"percent\":\""),
+            Number(covered.percent(plan) as u64),
             Text("\",\"goal\":\""),
-            Number(goal),
+            Number(plan.goal()),
             Text("\""),
         ],
     )
@@ -181,12 +223,13 @@ fn add_reasons(to: &mut Vec<u8>, refusals: &Refusals, reasons: &[Refusal]) -> Re
     add_further_reasons(to, refusals, rest)
 }
 
-/// Adds a coverage to a text as a JSON object on a line of its own: how many bins are covered, how many of them each input added,
-/// each group with the name and the count of its bins, and how many requests were refused for each reason. Numbers are strings.
-/// `goal` is how many operations a bin has to count to be covered; with 0 each is. `added` has a number for each input.
+/// Adds a coverage to a text as a JSON object on a line of its own: how many bins are covered, the rules of the plan, how many bins
+/// each input added, each group with the name and the count of its bins, and how many requests were refused for each reason. Numbers
+/// are strings. A bin with another goal than that of all has it as a third element, which is null where the bin is excluded. `added`
+/// has a number for each input.
 ///
 /// ```
-/// add_json(alloc, &mut text, &covered, &refusals, 1, &[6])?; // {"covered":"6","bins":"1410","percent":"0","goal":"1",..
+/// add_json(alloc, &mut text, &covered, &refusals, &plan, &[6])?; // {"covered":"6","bins":"1410","percent":"0","goal":"1",..
 /// ```
 #[tactic(auto, unfolding(crate::specs::Json::cover_json))]
 pub fn add_json(
@@ -194,17 +237,17 @@ pub fn add_json(
     to: &mut Vec<u8>,
     covered: &Covered,
     refusals: &Refusals,
-    goal: u64,
+    plan: &Plan,
     added: &[u64],
 ) -> Result<(), AllocError>
-    ensures { OnOk result (to.new.items ≡ to.old.items ++ cover_json goal added.now (count_in covered.now) (refused_in refusals.now)) }
+    ensures { OnOk result (to.new.items ≡ to.old.items ++ cover_json plan.now added.now (count_in covered.now) (refused_in refusals.now)) }
 {
     add_parts(to, &[Text("{")])?;
-    add_covered(to, covered, goal)?;
-    add_parts(to, &[Text(",\"added\":[")])?;
+    add_covered(to, covered, plan)?;
+    add_plan(alloc, to, plan.rules())?;
     add_added(to, added)?;
-    add_parts(to, &[Text("],\"groups\":[")])?;
-    add_groups(alloc, to, covered)?;
+    add_parts(to, &[Text(",\"groups\":[")])?;
+    add_groups(alloc, to, covered, plan)?;
     add_parts(to, &[Text("],\"refused\":[")])?;
     add_reasons(to, refusals, &Refusal::ALL)?;
     add_parts(to, &[Text("]}\n")])

@@ -1,12 +1,15 @@
 //! The lines of single bins.
 
-ghost use Rattle.std.specs.Prelude.{◌≡◌, ◌++◌, OnOk};
+ghost use Rattle.std.specs.Prelude.{◌≡◌, ◌++◌, None, OnOk, Some};
 ghost use Rattle.chi_cover.specs.Counts.{count_in};
-ghost use Rattle.chi_cover.specs.Texts.{left_text, missing_line, traffic_row};
+ghost use Rattle.chi_cover.specs.Plan.{goal_in};
+ghost use Rattle.chi_cover.specs.PlanTexts.{bin_line, left_text, line_at};
+ghost use Rattle.chi_cover.specs.Texts.{traffic_row};
 
 use crate::bin::Bin;
 use crate::covered::Covered;
 use crate::names::{add_bin_name, add_row_name};
+use crate::plan::Plan;
 use chi_text::Part::{Number, Text};
 use chi_text::add_parts;
 use std::alloc::AllocError;
@@ -34,17 +37,22 @@ fn add_left(to: &mut Vec<u8>, goal: u64, count: u64) -> Result<(), AllocError>
     add_parts(to, &[Text(": "), Number(count), Text(" of "), Number(goal)])
 }
 
-/// The line of a bin that has counted fewer operations than the goal.
-#[tactic(auto, unfolding(crate::specs::Texts::missing_line))]
-pub(crate) fn add_missing(
-    to: &mut Vec<u8>,
-    covered: &Covered,
-    goal: u64,
-    bin: Bin,
-) -> Result<(), AllocError>
-    ensures { OnOk result (to.new.items ≡ to.old.items ++ missing_line goal (count_in covered.now) bin) }
+/// The line of a bin that is excluded, where it was met.
+fn add_met(to: &mut Vec<u8>, count: u64, bin: Bin) -> Result<(), AllocError>
+    ensures { OnOk result (to.new.items ≡ to.old.items ++ line_at None count bin) }
 {
-    let count = covered.count(bin);
+    if count == 0 {
+        return Ok(());
+    }
+    add_parts(to, &[Text("excluded but met: ")])?;
+    add_bin_name(to, bin)?;
+    add_parts(to, &[Text(": "), Number(count), Text("\n")])
+}
+
+/// The line of a bin that has counted fewer operations than its goal.
+fn add_missing(to: &mut Vec<u8>, goal: u64, count: u64, bin: Bin) -> Result<(), AllocError>
+    ensures { OnOk result (to.new.items ≡ to.old.items ++ line_at (Some goal) count bin) }
+{
     if count >= goal {
         return Ok(());
     }
@@ -52,4 +60,21 @@ pub(crate) fn add_missing(
     add_bin_name(to, bin)?;
     add_left(to, goal, count)?;
     add_parts(to, &[Text("\n")])
+}
+
+/// The line of a bin of which there is more to say: that it is missing, or that it was met though it is excluded.
+#[tactic(auto, unfolding(crate::specs::PlanTexts::bin_line))]
+pub(crate) fn add_bin_line(
+    to: &mut Vec<u8>,
+    covered: &Covered,
+    plan: &Plan,
+    bin: Bin,
+) -> Result<(), AllocError>
+    ensures { OnOk result (to.new.items ≡ to.old.items ++ bin_line (goal_in plan.now) (count_in covered.now) bin) }
+{
+    let count = covered.count(bin);
+    match plan.goal_of(bin) {
+        Some(goal) => add_missing(to, goal, count, bin),
+        None => add_met(to, count, bin),
+    }
 }

@@ -2,7 +2,7 @@
 
 ghost use Rattle.std.specs.Prelude.{◌≡◌, ◌++◌, OnOk, codes};
 ghost use Rattle.chi_fields.specs.Opcode.{kind_name};
-ghost use Rattle.chi_cover.specs.Texts.{bin_name, bytes_text, depth_text, enabled_text, half_text, matched_text, order_text, overlap_text, requester_text, row_name, sequence_text};
+ghost use Rattle.chi_cover.specs.Names.{bin_name, bytes_text, depth_text, enabled_text, half_text, matched_text, order_text, overlap_text, requester_text, row_name, sequence_text};
 
 use crate::bin::{Bin, Depth, Enabled, Transaction};
 use chi_fields::{Kind, Op};

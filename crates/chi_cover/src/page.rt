@@ -10,6 +10,7 @@ use crate::covered::Covered;
 use crate::json::add_json;
 use crate::page_script::SCRIPT;
 use crate::page_style::STYLE;
+use crate::plan::Plan;
 use crate::refusals::Refusals;
 use chi_text::Part::Text;
 use chi_text::add_parts;
@@ -46,10 +47,10 @@ fn add_back(to: &mut Vec<u8>) -> Result<(), AllocError>
 }
 
 /// Adds the page of a coverage to a text: one HTML file that needs no other, with the JSON of the coverage as data that a script
-/// draws. `goal` is how many operations a bin has to count to be covered; with 0 each is. `added` is how many bins each input added.
+/// draws. `added` is how many bins each input added.
 ///
 /// ```
-/// add_page(alloc, &mut page, &covered, &refusals, 1, &[6])?;
+/// add_page(alloc, &mut page, &covered, &refusals, &plan, &[6])?;
 /// ```
 #[tactic(auto, unfolding(crate::specs::Page::page_text))]
 pub fn add_page(
@@ -57,12 +58,12 @@ pub fn add_page(
     to: &mut Vec<u8>,
     covered: &Covered,
     refusals: &Refusals,
-    goal: u64,
+    plan: &Plan,
     added: &[u64],
 ) -> Result<(), AllocError>
-    ensures { OnOk result (to.new.items ≡ to.old.items ++ page_text (front_text STYLE.now) (cover_json goal added.now (count_in covered.now) (refused_in refusals.now)) (back_text SCRIPT.now)) }
+    ensures { OnOk result (to.new.items ≡ to.old.items ++ page_text (front_text STYLE.now) (cover_json plan.now added.now (count_in covered.now) (refused_in refusals.now)) (back_text SCRIPT.now)) }
 {
     add_front(to)?;
-    add_json(alloc, to, covered, refusals, goal, added)?;
+    add_json(alloc, to, covered, refusals, plan, added)?;
     add_back(to)
 }

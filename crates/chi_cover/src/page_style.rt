@@ -2,7 +2,7 @@
 
 /// The style of the page.
 pub const STYLE: &str = r#"
-/* The page of a coverage: what is missing has a thick border and bold digits beside its colour. */
+/* The page of a coverage: beside its colour, what is missing has a thick border and bold digits, and what is excluded a dashed border. */
 :root { color-scheme: light dark; --missing: moccasin; --line: lightgray; --note: dimgray; }
 @media (prefers-color-scheme: dark) {
   :root { --missing: saddlebrown; --line: dimgray; --note: darkgray; }
@@ -27,6 +27,8 @@ thead th { color: var(--note); }
 thead tr:last-child th { position: sticky; top: 0; z-index: 1; }
 td { text-align: center; font-family: monospace; }
 td.missing { outline: 2px solid CanvasText; outline-offset: -1px; font-weight: bold; background: var(--missing); }
+td.excluded { outline: 1px dashed var(--note); outline-offset: -2px; color: var(--note); }
+.plan td { text-align: left; font-family: inherit; white-space: pre-wrap; overflow-wrap: anywhere; }
 tbody tr:hover th { text-decoration: underline; }
 .bins { columns: 24em; margin: 4px 0; padding-left: 20px; }
 .only-missing .whole { display: none; }

@@ -3,13 +3,17 @@
 ghost use Rattle.std.specs.Prelude.{◌≡◌, ◌++◌, OnOk, flat_map};
 ghost use Rattle.chi_fields.specs.Opcode.{all_ops};
 ghost use Rattle.chi_cover.specs.Bins.{all_bins, all_kinds, lengths};
-ghost use Rattle.chi_cover.specs.Texts.{comparison_row, covered_line, enables_row, goal_text, group_text, head_text, kind_rows, missing_line, op_rows, operations_text, table_text, traffic_row, traffic_text};
-ghost use Rattle.chi_cover.specs.Counts.{count_in, covered_of};
+ghost use Rattle.chi_cover.specs.Texts.{comparison_row, covered_line, enables_row, goal_text, group_text, head_text, kind_rows, op_rows, operations_text, table_text, traffic_row, traffic_text};
+ghost use Rattle.chi_cover.specs.Counts.{count_in, covered_of, wanted_of};
+ghost use Rattle.chi_cover.specs.Plan.{goal_in};
+ghost use Rattle.chi_cover.specs.PlanTexts.{bin_line};
 
 use crate::bin::Bin;
-use crate::covered::Covered;
+use crate::covered::{Covered, is_covered};
 use crate::group::{KINDS, LENGTHS, comparison_bins, enables_bins, operation_bins, result_bins};
-use crate::lines::{add_missing, add_traffic_row};
+use crate::lines::{add_bin_line, add_traffic_row};
+use crate::plan::Plan;
+use crate::plan_rows::add_rules;
 use crate::rows::{add_comparison_row, add_enables_row, add_kind_rows, add_op_rows};
 use crate::sequence_group::{line_sequence_bins, sequence_bins};
 use crate::traffic_group::{all_bins, open_bins, overlap_bins, requester_bins};
@@ -18,13 +22,26 @@ use chi_text::Part::{Number, Text};
 use chi_text::add_parts;
 use std::alloc::{AllocError, Global};
 
-/// How many of these bins have counted as many operations as the goal.
-fn covered_of(covered: &Covered, goal: u64, bins: &[Bin]) -> usize
-    ensures { result ≡ covered_of goal (count_in covered.now) bins.now }
+/// How many of these bins are covered.
+fn covered_of(covered: &Covered, plan: &Plan, bins: &[Bin]) -> usize
+    ensures { result ≡ covered_of (goal_in plan.now) (count_in covered.now) bins.now }
 {
     let mut count = 0;
     for bin in bins {
-        if covered.count(*bin) >= goal {
+        if is_covered(plan.goal_of(*bin), covered.count(*bin)) {
+            count += 1;
+        }
+    }
+    count
+}
+
+/// How many of these bins are not excluded.
+fn wanted_of(plan: &Plan, bins: &[Bin]) -> usize
+    ensures { result ≡ wanted_of (goal_in plan.now) bins.now }
+{
+    let mut count = 0;
+    for bin in bins {
+        if plan.goal_of(*bin).is_some() {
             count += 1;
         }
     }
@@ -36,26 +53,26 @@ fn covered_of(covered: &Covered, goal: u64, bins: &[Bin]) -> usize
 fn add_head(
     to: &mut Vec<u8>,
     covered: &Covered,
-    goal: u64,
+    plan: &Plan,
     name: &'static str,
     bins: &[Bin],
 ) -> Result<(), AllocError>
-    ensures { OnOk result (to.new.items ≡ to.old.items ++ head_text goal (count_in covered.now) name.now bins.now) }
+    ensures { OnOk result (to.new.items ≡ to.old.items ++ head_text (goal_in plan.now) (count_in covered.now) name.now bins.now) }
 {
     add_parts(
         to,
         &[
             Text(name),
             Text(": "),
-            Number(covered_of(covered, goal, bins) as u64),
+            Number(covered_of(covered, plan, bins) as u64),
             Text(" of "),
-            Number(bins.len() as u64),
+            Number(wanted_of(plan, bins) as u64),
             Text("\n"),
         ],
     )
 }
 
-/// A goal other than one operation.
+/// A goal of all bins that is another than one operation.
 fn add_goal(to: &mut Vec<u8>, goal: u64) -> Result<(), AllocError>
     ensures { OnOk result (to.new.items ≡ to.old.items ++ goal_text goal) }
 {
@@ -65,24 +82,24 @@ fn add_goal(to: &mut Vec<u8>, goal: u64) -> Result<(), AllocError>
     add_parts(to, &[Text(", each at least "), Number(goal)])
 }
 
-/// How many bins have counted as many operations as the goal.
+/// How many bins that are not excluded are covered, and the goal of all.
 #[tactic(auto, unfolding(crate::specs::Texts::covered_line))]
-fn add_covered(to: &mut Vec<u8>, covered: &Covered, goal: u64) -> Result<(), AllocError>
-    ensures { OnOk result (to.new.items ≡ to.old.items ++ covered_line goal (count_in covered.now)) }
+fn add_covered(to: &mut Vec<u8>, covered: &Covered, plan: &Plan) -> Result<(), AllocError>
+    ensures { OnOk result (to.new.items ≡ to.old.items ++ covered_line plan.now (count_in covered.now)) }
 {
-    let count = covered.covered(goal) as u64;
-    let percent = covered.percent(goal) as u64;
     add_parts(
         to,
         &[
             Text("covered: "),
-            Number(count),
-            Text(" of 1410 ("),
-            Number(percent),
+            Number(covered.covered(plan) as u64),
+            Text(" of "),
+            Number(plan.wanted() as u64),
+            Text(" ("),
+            Number(covered.percent(plan) as u64),
             Text("%)"),
         ],
     )?;
-    add_goal(to, goal)?;
+    add_goal(to, plan.goal())?;
     add_parts(to, &[Text("\n")])
 }
 
@@ -131,16 +148,16 @@ fn add_each_row(to: &mut Vec<u8>, covered: &Covered, bins: &[Bin]) -> Result<(),
     Ok(())
 }
 
-fn add_each_missing(
+fn add_each_line(
     to: &mut Vec<u8>,
     covered: &Covered,
-    goal: u64,
+    plan: &Plan,
     bins: &[Bin],
 ) -> Result<(), AllocError>
-    ensures { OnOk result (to.new.items ≡ to.old.items ++ flat_map (missing_line goal (count_in covered.now)) bins.now) }
+    ensures { OnOk result (to.new.items ≡ to.old.items ++ flat_map (bin_line (goal_in plan.now) (count_in covered.now)) bins.now) }
 {
     for bin in bins {
-        add_missing(to, covered, goal, *bin)?;
+        add_bin_line(to, covered, plan, *bin)?;
     }
     Ok(())
 }
@@ -151,17 +168,17 @@ fn add_of_operations(
     alloc: Global,
     to: &mut Vec<u8>,
     covered: &Covered,
-    goal: u64,
+    plan: &Plan,
 ) -> Result<(), AllocError>
-    ensures { OnOk result (to.new.items ≡ to.old.items ++ operations_text goal (count_in covered.now)) }
+    ensures { OnOk result (to.new.items ≡ to.old.items ++ operations_text (goal_in plan.now) (count_in covered.now)) }
 {
-    add_head(to, covered, goal, "operations", &operation_bins(alloc)?)?;
+    add_head(to, covered, plan, "operations", &operation_bins(alloc)?)?;
     add_all_kinds(to, covered)?;
-    add_head(to, covered, goal, "compares", &comparison_bins(alloc)?)?;
+    add_head(to, covered, plan, "compares", &comparison_bins(alloc)?)?;
     add_all_comparisons(to, covered)?;
-    add_head(to, covered, goal, "writes", &enables_bins(alloc)?)?;
+    add_head(to, covered, plan, "writes", &enables_bins(alloc)?)?;
     add_all_enables(to, covered)?;
-    add_head(to, covered, goal, "results", &result_bins(alloc)?)?;
+    add_head(to, covered, plan, "results", &result_bins(alloc)?)?;
     add_all_results(to, covered)
 }
 
@@ -169,13 +186,13 @@ fn add_of_operations(
 fn add_group(
     to: &mut Vec<u8>,
     covered: &Covered,
-    goal: u64,
+    plan: &Plan,
     name: &'static str,
     bins: &[Bin],
 ) -> Result<(), AllocError>
-    ensures { OnOk result (to.new.items ≡ to.old.items ++ group_text goal (count_in covered.now) name.now bins.now) }
+    ensures { OnOk result (to.new.items ≡ to.old.items ++ group_text (goal_in plan.now) (count_in covered.now) name.now bins.now) }
 {
-    add_head(to, covered, goal, name, bins)?;
+    add_head(to, covered, plan, name, bins)?;
     add_each_row(to, covered, bins)
 }
 
@@ -185,52 +202,53 @@ fn add_of_traffic(
     alloc: Global,
     to: &mut Vec<u8>,
     covered: &Covered,
-    goal: u64,
+    plan: &Plan,
 ) -> Result<(), AllocError>
-    ensures { OnOk result (to.new.items ≡ to.old.items ++ traffic_text goal (count_in covered.now)) }
+    ensures { OnOk result (to.new.items ≡ to.old.items ++ traffic_text (goal_in plan.now) (count_in covered.now)) }
 {
-    add_group(to, covered, goal, "open at once", &open_bins(alloc)?)?;
-    add_group(to, covered, goal, "overlaps", &overlap_bins(alloc)?)?;
-    add_group(to, covered, goal, "requesters", &requester_bins(alloc)?)?;
-    add_group(to, covered, goal, "sequences", &sequence_bins(alloc)?)?;
+    add_group(to, covered, plan, "open at once", &open_bins(alloc)?)?;
+    add_group(to, covered, plan, "overlaps", &overlap_bins(alloc)?)?;
+    add_group(to, covered, plan, "requesters", &requester_bins(alloc)?)?;
+    add_group(to, covered, plan, "sequences", &sequence_bins(alloc)?)?;
     add_group(
         to,
         covered,
-        goal,
+        plan,
         "line sequences",
         &line_sequence_bins(alloc)?,
     )
 }
 
-/// The bins that have counted fewer operations than the goal.
-fn add_all_missing(
+/// The bins that are missing, and those that were met though they are excluded.
+fn add_all_lines(
     alloc: Global,
     to: &mut Vec<u8>,
     covered: &Covered,
-    goal: u64,
+    plan: &Plan,
 ) -> Result<(), AllocError>
-    ensures { OnOk result (to.new.items ≡ to.old.items ++ flat_map (missing_line goal (count_in covered.now)) all_bins) }
+    ensures { OnOk result (to.new.items ≡ to.old.items ++ flat_map (bin_line (goal_in plan.now) (count_in covered.now)) all_bins) }
 {
-    add_each_missing(to, covered, goal, &all_bins(alloc)?)
+    add_each_line(to, covered, plan, &all_bins(alloc)?)
 }
 
 /// Adds the table of a coverage to a text: of each group how many of its bins are covered, and the counts of all; how many bins of
-/// all are covered; and a line for each that is not. `goal` is how many operations a bin has to count to be covered; with 0 each is.
+/// all are covered; the rules of the plan; and a line for each bin that is missing, or was met though it is excluded.
 ///
 /// ```
-/// add_table(alloc, &mut text, &covered, 1)?;
+/// add_table(alloc, &mut text, &covered, &plan)?;
 /// ```
 #[tactic(auto, unfolding(crate::specs::Texts::table_text))]
 pub fn add_table(
     alloc: Global,
     to: &mut Vec<u8>,
     covered: &Covered,
-    goal: u64,
+    plan: &Plan,
 ) -> Result<(), AllocError>
-    ensures { OnOk result (to.new.items ≡ to.old.items ++ table_text goal (count_in covered.now)) }
+    ensures { OnOk result (to.new.items ≡ to.old.items ++ table_text plan.now (count_in covered.now)) }
 {
-    add_of_operations(alloc, to, covered, goal)?;
-    add_of_traffic(alloc, to, covered, goal)?;
-    add_covered(to, covered, goal)?;
-    add_all_missing(alloc, to, covered, goal)
+    add_of_operations(alloc, to, covered, plan)?;
+    add_of_traffic(alloc, to, covered, plan)?;
+    add_covered(to, covered, plan)?;
+    add_rules(alloc, to, plan.rules())?;
+    add_all_lines(alloc, to, covered, plan)
 }

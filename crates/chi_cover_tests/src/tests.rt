@@ -7,6 +7,7 @@ mod many_tests;
 mod operation_tests;
 mod operations;
 mod page_tests;
+mod plan_tests;
 mod reason_tests;
 mod sequence_tests;
 mod table_tests;

@@ -2,7 +2,7 @@
 
 use crate::tests::comparison::assert_same;
 use crate::tests::operations::{covered_by, covered_twice, small_trace};
-use chi_cover::{Covered, Refusals, add_json};
+use chi_cover::{Covered, Plan, Refusals, add_json};
 use chi_fields::Refusal;
 use std::alloc::Global;
 use std::test::Fail;
@@ -11,7 +11,7 @@ use std::test::Fail;
 // AtomicLoad, one and two operations that were open, and of the write that it overlaps an AtomicLoad, of another requester. Three
 // requests were refused, two of them for one reason. All of it is on one line.
 const WANTED: [&str; 11] = [
-    r#"{"covered":"9","bins":"1410","percent":"0","goal":"1",
+    r#"{"covered":"9","bins":"1410","percent":"0","goal":"1","plan":[],
 "added":["8","0","2"],"groups":[{"name":"operations","bins":[["ReadNoSnp, little-endian, 1 byte, lane 0","0"],
 ["ReadNoSnp, little-endian, 1 byte, lane 1","0"],
 "#,
@@ -112,7 +112,8 @@ fn json(
     added: &[u64],
 ) -> Result<String, Fail> {
     let mut text = Vec::new(alloc);
-    add_json(alloc, &mut text, covered, refusals, goal, added)?;
+    let plan = Plan::of_goal(alloc, goal)?;
+    add_json(alloc, &mut text, covered, refusals, &plan, added)?;
     Ok(String::from_utf8(text)?)
 }
 
@@ -143,7 +144,7 @@ fn one_object_on_a_line(rt: HostRuntime) -> Result<(), Fail> {
     assert_same(
         &rt,
         json.starts_with(
-            r#"{"covered":"0","bins":"1410","percent":"0","goal":"1","added":[],"groups":[{"#,
+            r#"{"covered":"0","bins":"1410","percent":"0","goal":"1","plan":[],"added":[],"groups":[{"#,
         ),
         true,
     );
@@ -160,7 +161,7 @@ fn the_json_at_a_goal_of_two_operations(rt: HostRuntime) -> Result<(), Fail> {
     let covered = covered_twice(alloc)?;
     let json = json(alloc, &covered, &Refusals::none(), 2, &[u64::MAX])?;
     for wanted in [
-        r#"{"covered":"4","bins":"1410","percent":"0","goal":"2","added":["18446744073709551615"],"groups":[{"name":"operations","#,
+        r#"{"covered":"4","bins":"1410","percent":"0","goal":"2","plan":[],"added":["18446744073709551615"],"groups":[{"name":"operations","#,
         r#"["WriteNoSnpPtl, big-endian, 4 bytes, lane 4","1"]"#,
         r#"["AtomicLoad.ADD, little-endian, 2 bytes, lane 4","2"]"#,
         r#"[["open 1","2"],["open 2","1"],["open 3 to 4","0"],"#,

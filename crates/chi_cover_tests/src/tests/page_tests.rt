@@ -2,14 +2,15 @@
 
 use crate::tests::comparison::assert_same;
 use crate::tests::operations::{covered_by, small_trace};
-use chi_cover::{Covered, Refusals, add_json, add_page};
+use chi_cover::{Covered, Plan, Refusals, add_json, add_page};
 use chi_fields::Refusal;
 use std::alloc::Global;
 use std::test::Fail;
 
 fn page(alloc: Global, covered: &Covered, refusals: &Refusals, goal: u64) -> Result<String, Fail> {
     let mut text = Vec::new(alloc);
-    add_page(alloc, &mut text, covered, refusals, goal, &[9])?;
+    let plan = Plan::of_goal(alloc, goal)?;
+    add_page(alloc, &mut text, covered, refusals, &plan, &[9])?;
     Ok(String::from_utf8(text)?)
 }
 
@@ -23,7 +24,8 @@ fn the_data_of_a_page(rt: HostRuntime) -> Result<(), Fail> {
         alloc,
         b"<script type=\"application/json\" id=\"coverage\">\n",
     )?;
-    add_json(alloc, &mut data, &covered, &refusals, 2, &[9])?;
+    let plan = Plan::of_goal(alloc, 2)?;
+    add_json(alloc, &mut data, &covered, &refusals, &plan, &[9])?;
     data.extend_from_slice(b"</script>\n<script>")?;
     let data = String::from_utf8(data)?;
     let page = page(alloc, &covered, &refusals, 2)?;

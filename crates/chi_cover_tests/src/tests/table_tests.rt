@@ -2,7 +2,7 @@
 
 use crate::tests::comparison::assert_same;
 use crate::tests::operations::{add, covered_by, covered_twice, read, small_trace};
-use chi_cover::{Covered, add_table};
+use chi_cover::{Covered, Plan, add_table};
 use std::alloc::Global;
 use std::process::Abort;
 use std::test::Fail;
@@ -56,7 +56,8 @@ const WANTED: [(usize, &str); 34] = [
 
 fn table(alloc: Global, covered: &Covered, goal: u64) -> Result<Vec<u8>, Fail> {
     let mut text = Vec::new(alloc);
-    add_table(alloc, &mut text, covered, goal)?;
+    let plan = Plan::of_goal(alloc, goal)?;
+    add_table(alloc, &mut text, covered, &plan)?;
     Ok(text)
 }
 
@@ -116,9 +117,10 @@ const MISSING: [(usize, &str); 10] = [
 fn the_bins_that_an_empty_table_misses(rt: HostRuntime) -> Result<(), Fail> {
     let alloc = rt.alloc();
     let covered = Covered::new(alloc)?;
-    assert_same(&rt, covered.covered(1), 0);
+    let plan = Plan::of_goal(alloc, 1)?;
+    assert_same(&rt, covered.covered(&plan), 0);
     assert_same(&rt, Covered::bins(), 1410);
-    assert_same(&rt, covered.percent(1), 0);
+    assert_same(&rt, covered.percent(&plan), 0);
     let text = table(alloc, &covered, 1)?;
     assert_lines(&rt, text.as_slice(), &MISSING);
     Ok(())
@@ -213,8 +215,9 @@ fn bins_and_percent_at_a_goal(rt: HostRuntime) -> Result<(), Fail> {
         (28, 0, 0),
         (u64::MAX, 0, 0),
     ] {
-        assert_same(&rt, (goal, covered.covered(goal)), (goal, bins));
-        assert_same(&rt, (goal, covered.percent(goal)), (goal, percent));
+        let plan = Plan::of_goal(alloc, goal)?;
+        assert_same(&rt, (goal, covered.covered(&plan)), (goal, bins));
+        assert_same(&rt, (goal, covered.percent(&plan)), (goal, percent));
     }
     Ok(())
 }

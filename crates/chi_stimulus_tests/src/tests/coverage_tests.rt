@@ -2,7 +2,7 @@
 
 use crate::tests::comparison::assert_same;
 use crate::tests::executed::{script_of, stimulus};
-use chi_cover::{Bin, Covered};
+use chi_cover::{Bin, Covered, Plan};
 use chi_fields::{Access, Kind, Op, Request, decode};
 use chi_lanes::apply;
 use chi_script::Script;
@@ -82,9 +82,10 @@ fn covered(alloc: Global, script: &Script, plant: Plant) -> Result<Covered, Fail
 #[test]
 fn scripts_by_chance_cover_all_operations(rt: HostRuntime) -> Result<(), Fail> {
     let alloc = rt.alloc();
+    let plan = Plan::of_goal(alloc, 1)?;
     for seed in 1..5 {
         let covered = covered(alloc, &script_of(alloc, &stimulus(seed)?)?, Plant::Nothing)?;
-        assert_same(&rt, (seed, covered.covered(1)), (seed, OF_OPERATIONS));
+        assert_same(&rt, (seed, covered.covered(&plan)), (seed, OF_OPERATIONS));
     }
     Ok(())
 }
@@ -92,6 +93,7 @@ fn scripts_by_chance_cover_all_operations(rt: HostRuntime) -> Result<(), Fail> {
 #[test]
 fn planted_faults_leave_bins_out(rt: HostRuntime) -> Result<(), Fail> {
     let alloc = rt.alloc();
+    let plan = Plan::of_goal(alloc, 1)?;
     let script = script_of(alloc, &stimulus(1)?)?;
     let big = Bin::Operand {
         kind: Kind::Swap,
@@ -115,7 +117,7 @@ fn planted_faults_leave_bins_out(rt: HostRuntime) -> Result<(), Fail> {
     ] {
         let covered = covered(alloc, &script, plant)?;
         assert_same(&rt, covered.count(bin), 0);
-        assert_same(&rt, covered.covered(1) < OF_OPERATIONS, true);
+        assert_same(&rt, covered.covered(&plan) < OF_OPERATIONS, true);
     }
     Ok(())
 }

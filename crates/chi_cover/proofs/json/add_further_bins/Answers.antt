@@ -6,7 +6,7 @@ use Rattle.chi_cover.proofs.json.add_further_bins.Goals as goal
 
 pub loop-bin-preserved : goal.loop-bin-preserved
 loop-bin-preserved c =
-    part_more (further (bin_json (count_in c.args.covered.now))) c.args.to.now.items c.args.bins.now c.loop-bin.bin-index _ c.loop-bin.to.items c.add_further_bin.new.to.items c.loop-bin-test.true c.loop-bin.invariant c.in_ok-add_further_bin.ensures
+    part_more (further (bin_json c.args.plan.now (count_in c.args.covered.now))) c.args.to.now.items c.args.bins.now c.loop-bin.bin-index _ c.loop-bin.to.items c.add_further_bin.new.to.items c.loop-bin-test.true c.loop-bin.invariant c.in_ok-add_further_bin.ensures
 
 pub returns : goal.returns
-returns c = all_parts (further (bin_json (count_in c.args.covered.now))) c.args.to.now.items c.args.bins.now c.loop-bin.bin-index c.loop-bin.to.items c.loop-bin-test.false c.loop-bin.invariant
+returns c = all_parts (further (bin_json c.args.plan.now (count_in c.args.covered.now))) c.args.to.now.items c.args.bins.now c.loop-bin.bin-index c.loop-bin.to.items c.loop-bin-test.false c.loop-bin.invariant

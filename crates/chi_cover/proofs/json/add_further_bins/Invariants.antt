@@ -5,4 +5,4 @@ use Rattle.chi_cover.specs.Json.{bin_json, further}
 use Rattle.chi_cover.proofs.json.add_further_bins.Given as goal
 
 abbrev pub invariant-loop-bin : goal.invariant-loop-bin
-invariant-loop-bin l = l.to.items ≡ l.initial.to.items ++ flat_map (further (bin_json (count_in l.covered))) (take l.bin-index l.bins)
+invariant-loop-bin l = l.to.items ≡ l.initial.to.items ++ flat_map (further (bin_json l.plan (count_in l.covered))) (take l.bin-index l.bins)

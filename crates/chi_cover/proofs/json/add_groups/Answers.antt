@@ -10,7 +10,7 @@ use Rattle.chi_cover.proofs.json.add_groups.Goals as goal
 pub returns : goal.returns
 unfolding groups_json
 returns c =
-    let group = group_json (count_in c.args.covered.now) in
+    let group = group_json c.args.plan.now (count_in c.args.covered.now) in
     let operations = rw (c.deref.ensures.value, c.in_ok-operation_bins.ensures) at c.in_ok-add_group.ensures in
     let compares = rw (c.deref-2.ensures.value, c.in_ok-comparison_bins.ensures) at c.in_ok-add_further_group.ensures in
     let writes = rw (c.deref-3.ensures.value, c.in_ok-enables_bins.ensures) at c.in_ok-add_further_group-2.ensures in

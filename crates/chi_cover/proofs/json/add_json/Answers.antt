@@ -9,13 +9,14 @@ returns c =
     simp (
       c.in_ok-add_parts.ensures,
       c.in_ok-add_covered.ensures,
-      c.in_ok-add_parts-2.ensures,
+      c.in_ok-add_plan.ensures,
+      c.rules.ensures,
       c.in_ok-add_added.ensures,
-      c.in_ok-add_parts-3.ensures,
+      c.in_ok-add_parts-2.ensures,
       c.in_ok-add_groups.ensures,
-      c.in_ok-add_parts-4.ensures,
+      c.in_ok-add_parts-3.ensures,
       c.in_ok-add_reasons.ensures,
       append_assoc,
       append-nil,
     )
-    at c.add_parts-5.ensures
+    at c.add_parts-4.ensures

@@ -2,6 +2,7 @@
 use Rattle.std.proofs.Common.{codes, flat_map}
 use Rattle.chi_cover.specs.Bins.{all_kinds, comparison_bins, enables_bins, lengths, operation_bins, result_bins}
 use Rattle.chi_cover.specs.Counts.{count_in}
+use Rattle.chi_cover.specs.Plan.{goal_in}
 use Rattle.chi_cover.specs.Texts.{comparison_row, enables_row, head_text, kind_rows, operations_text}
 use Rattle.chi_text.proofs.Growing.{joined}
 use Rattle.chi_cover.proofs.Lists.{on_ok}
@@ -11,7 +12,7 @@ pub returns : goal.returns
 unfolding operations_text
 returns c =
     let counts = count_in c.args.covered.now in
-    let head = head_text c.args.goal counts in
+    let head = head_text (goal_in c.args.plan.now) counts in
     let operation_head = rw (c.deref.ensures.value, c.in_ok-operation_bins.ensures) at c.in_ok-add_head.ensures in
     let comparison_head = rw (c.deref-2.ensures.value, c.in_ok-comparison_bins.ensures) at c.in_ok-add_head-2.ensures in
     let enables_head = rw (c.deref-3.ensures.value, c.in_ok-enables_bins.ensures) at c.in_ok-add_head-3.ensures in

@@ -2,6 +2,7 @@
 use Rattle.std.proofs.Common.{codes}
 use Rattle.chi_cover.specs.Bins.{open_bins, overlap_bins, requester_bins, sequence_bins}
 use Rattle.chi_cover.specs.Counts.{count_in}
+use Rattle.chi_cover.specs.Plan.{goal_in}
 use Rattle.chi_cover.specs.Texts.{group_text, traffic_text}
 use Rattle.chi_text.proofs.Growing.{joined}
 use Rattle.chi_cover.proofs.Lists.{on_ok}
@@ -10,7 +11,7 @@ use Rattle.chi_cover.proofs.table.add_of_traffic.Goals as goal
 pub returns : goal.returns
 unfolding traffic_text
 returns c =
-    let text = group_text c.args.goal (count_in c.args.covered.now) in
+    let text = group_text (goal_in c.args.plan.now) (count_in c.args.covered.now) in
     let opened = rw (c.deref.ensures.value, c.in_ok-open_bins.ensures) at c.in_ok-add_group.ensures in
     let overlapped = rw (c.deref-2.ensures.value, c.in_ok-overlap_bins.ensures) at c.in_ok-add_group-2.ensures in
     let asked = rw (c.deref-3.ensures.value, c.in_ok-requester_bins.ensures) at c.in_ok-add_group-3.ensures in
