@@ -26,8 +26,9 @@ def terminal():
 
 
 def lines_on_terminal(preload):
-    """The lines by a clock that goes on by so many milliseconds each time that it is read: when the program begins, and
-    each 4,096 states. A search of 2^17 states and more ends by its budget, so the number of states is known. Then the answer
+    """The lines by a clock that goes on by so many milliseconds each time that it is read: when the program begins, each 4,096
+    states, at the verdict, and each 64 states after it. So the last look, which comes after the verdict, is four steps later than
+    the one before it. A search of 2^17 states and more ends by its budget, so the number of states is known. Then the answer
     tries 4 of the 17 ends, and up to each an order of all 18 is found at the first try, whatever the words at the end. The
     swap, which may come anywhere, keeps the adds from being taken in one order alone."""
     swap = {it: value for it, value in request(17, 56, 4096, 255, "0" * 32, 0, 0, None).items() if it != "end"}
@@ -41,9 +42,10 @@ def lines_on_terminal(preload):
         ("a second at each look", 10 * 4096, 1000, range(1, 11)),
         ("less than a second at the first look", 10 * 4096, 999, range(2, 11)),
         ("a tenth at each look", 12 * 4096, 100, [10, 11, 12]),
-        ("less than a tenth at each look", 16 * 4096, 99, [11, 13, 15]),
-        ("half a tenth at each look", 25 * 4096, 50, [20, 22, 24]),
-        ("less than a second in all", 10 * 4096, 99, []),
+        ("less than a tenth at each look", 16 * 4096, 99, [11, 13, 15, 16]),
+        ("half a tenth at each look", 25 * 4096, 50, [20, 22, 24, 25]),
+        ("a second at the last look alone", 10 * 4096, 77, [10]),
+        ("less than a second in all", 10 * 4096, 76, []),
     ]:
         budget = states - 4 * 18
         words, faults = ["explain", "--budget", str(budget)], {"LD_PRELOAD": preload, "FAULT_CLOCK": str(step)}
